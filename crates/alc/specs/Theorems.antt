@@ -1,0 +1,23 @@
+-- The theorems: that the definitions mean what the demands say. No definition rests on them.
+pub mod Bits
+pub mod Lists
+pub mod Counting
+pub mod Sheet
+pub mod Meaning
+pub mod Label
+pub mod Moves
+pub mod Steps
+pub mod Settle
+pub mod Keeps
+pub mod Seeds
+pub mod Models
+pub mod Witness
+pub mod Expand
+pub mod Family
+pub mod Survive
+pub mod Bound
+pub mod Reach
+pub mod Decides
+pub mod Records
+pub mod Causes
+pub mod Answers

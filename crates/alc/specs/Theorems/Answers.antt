@@ -1,0 +1,183 @@
+-- What the replies mean, in the demands' own words.
+use Prim.Native.Nat.{ℕ, zero, suc, _^_, _≤_, _<_}
+use mathlib.Core.Bool.{Bool, true, false, _&&_}
+use mathlib.Core.Path.{_≡_, refl, sym, _∙_, ap}
+use mathlib.Core.Logic.{_↔_, _⊎_, inl, inr, ⊎-elim}
+use mathlib.Core.List.{List, [], _∷_, List·Memᴰ·not-nil, List·Memᴰ·cases-cons}
+use lib.ListN.{length, getD}
+use lib.Dec.{ltb}
+use borrow.Author.Tests.{ltb-true, ltb-false, lt-ltb, le-ltb}
+use native.Mathlib.Omega.{arith}
+use Rattle.alc.specs.Lists.{_∈_, any, Ascending, from, nothing, Maybe, just, filter}
+use Rattle.alc.specs.Sheet.{Sheet, count}
+use Rattle.alc.specs.Meaning.{SheetSatisfiable}
+use Rattle.alc.specs.Settle.{Joint}
+use Rattle.alc.specs.Seeds.{bound, quantified}
+use Rattle.alc.specs.Judge.{recordsNeeded, Entry, firstFine}
+use Rattle.alc.specs.Model.{satisfyAnswer, Answer, told}
+use Rattle.alc.specs.Causes.{denial, causesAnswer, forcing, noSubsetForces, ruleSets, NoSubsetForces, listed, withRules}
+use Rattle.alc.specs.Theorems.Lists.{and-both, cases, there, any-intro, upTo-intro, filter-elim, and-left, and-right, from-elim, here, any-elim, filter-step, upTo-elim}
+use Rattle.alc.specs.Theorems.Sheet.{WellFormed}
+use Rattle.alc.specs.Theorems.Decides.{found-satisfiable, satisfiable-found}
+use Rattle.alc.specs.Theorems.Records.{records-bound}
+use Rattle.alc.specs.Theorems.Causes.{forces-at, no-subset-elim, no-subset-intro}
+
+-- ---- demand 2, over the satisfyAnswer itself
+no-extra : (x : Entry) → x ∈ [] → ⊥
+no-extra x h = List·Memᴰ·not-nil h
+
+module _ (s : Sheet) (room : ℕ) where
+  pub Enough : Type 0
+  Enough = length (recordsNeeded s []) ≤ room
+
+  reply-short : room < length (recordsNeeded s []) → satisfyAnswer s room ≡ record { number = 13; out = [] }
+  unfolding satisfyAnswer
+  reply-short h = rw (lt-ltb room (length (recordsNeeded s [])) h, satisfyAnswer)
+
+  reply-told : length (recordsNeeded s []) ≤ room → satisfyAnswer s room ≡ told s (firstFine s [])
+  unfolding satisfyAnswer
+  reply-told h = rw (le-ltb room (length (recordsNeeded s [])) h, satisfyAnswer)
+
+  told-not-13 : (o : Maybe Joint) → told s o .number ≡ 13 → ⊥
+  told-not-13 nothing e = omega arith
+  told-not-13 (just K) e = omega arith
+
+  -- out of space exactly when the recordsNeeded needed outnumber those lent
+  pub thirteen-is : (satisfyAnswer s room .number ≡ 13) ↔ (room < length (recordsNeeded s []))
+  thirteen-is = (there-, λ h. ap (λ (r : Answer). r .number) (reply-short h))
+    where
+      there- : satisfyAnswer s room .number ≡ 13 → room < length (recordsNeeded s [])
+      there- e =
+          ⊎-elim
+          (λ (t : ltb room (length (recordsNeeded s [])) ≡ true). ltb-true room _ t)
+          (λ (t : ltb room (length (recordsNeeded s [])) ≡ false). absurd (told-not-13 (firstFine s []) (sym (ap (λ (r : Answer). r .number) (reply-told (ltb-false room _ t))) ∙ e)))
+          (cases (ltb room (length (recordsNeeded s []))))
+
+  -- and never when e·2^(e-1) are lent
+  pub thirteen-never : bound s ≤ room → satisfyAnswer s room .number ≡ 13 → ⊥
+  thirteen-never h e = let a = thirteen-is .0 e in omega (arith, records-bound s [])
+
+  module _ (wf : WellFormed s) where
+    go10 : (o : Maybe Joint) → firstFine s [] ≡ o → told s o .number ≡ 10 → SheetSatisfiable s
+    go10 nothing q e = absurd (omega arith)
+    go10 (just K) q e = let (I, m, _) = found-satisfiable s wf [] (λ x h. absurd (no-extra x h)) K q in (I, m)
+
+    go12 : (o : Maybe Joint) → firstFine s [] ≡ o → told s o .number ≡ 12 → SheetSatisfiable s → ⊥
+    go12 nothing q e (I, m) =
+        let (K, p) = satisfiable-found s wf [] (I, m, λ x h. absurd (no-extra x h)) in
+        let z : _≡_ {A = Maybe Joint} nothing (just K) = sym q ∙ p in
+        let y : _≡_ {A = ℕ} 0 1 = cc in omega arith
+    go12 (just K) q e sat = omega arith
+
+    enough : satisfyAnswer s room .number ≡ 13 ⊎ (length (recordsNeeded s []) ≤ room)
+    enough = ⊎-elim (λ t. inl (thirteen-is .1 (ltb-true room _ t))) (λ t. inr (ltb-false room _ t)) (cases (ltb room (length (recordsNeeded s []))))
+
+    pub ten-only : satisfyAnswer s room .number ≡ 10 → SheetSatisfiable s
+    ten-only e =
+        ⊎-elim
+        (λ t. absurd (let a : _≡_ {A = ℕ} 13 10 = sym t ∙ e in omega arith))
+        (λ t. go10 (firstFine s []) refl (sym (ap (λ (r : Answer). r .number) (reply-told t)) ∙ e))
+        enough
+
+    pub twelve-only : satisfyAnswer s room .number ≡ 12 → SheetSatisfiable s → ⊥
+    twelve-only e =
+        ⊎-elim
+        (λ t. absurd (let a : _≡_ {A = ℕ} 13 12 = sym t ∙ e in omega arith))
+        (λ t. go12 (firstFine s []) refl (sym (ap (λ (r : Answer). r .number) (reply-told t)) ∙ e))
+        enough
+
+  -- there is no other number
+  pub three-only : ((satisfyAnswer s room .number ≡ 10) ⊎ (satisfyAnswer s room .number ≡ 12)) ⊎ (satisfyAnswer s room .number ≡ 13)
+  three-only =
+      ⊎-elim
+      (λ (t : ltb room (length (recordsNeeded s [])) ≡ true). inr (thirteen-is .1 (ltb-true room _ t)))
+      (λ (t : ltb room (length (recordsNeeded s [])) ≡ false). inl (rw (reply-told (ltb-false room _ t)) (go (firstFine s []))))
+      (cases (ltb room (length (recordsNeeded s []))))
+    where
+      go : (o : Maybe Joint) → (told s o .number ≡ 10) ⊎ (told s o .number ≡ 12)
+      go nothing = inr refl
+      go (just K) = inl refl
+
+filter-ascending : (p : ℕ → Bool) (a k : ℕ) → Ascending (filter p (from a k))
+filter-ascending p a zero = tt
+filter-ascending p a (suc k) =
+    ⊎-elim
+    (λ t. rw (t .1) ((λ y h. let (i, _) = filter-elim p (from (suc a) k) h in let (l, _) = from-elim (suc a) k y i in omega arith), filter-ascending p (suc a) k))
+    (λ t. rw (t .1) (filter-ascending p (suc a) k))
+    (filter-step p a (from (suc a) k))
+
+pub listed-ascending : (s : Sheet) (port class : ℕ) → Ascending (listed s port class)
+unfolding listed
+listed-ascending s port class = filter-ascending (λ n. noSubsetForces s (forcing s port class) n && getD (forcing s port class) n false) 0 (2 ^ length (s .rules))
+
+pub ascending-unique : (xs ys : List ℕ) → Ascending xs → Ascending ys → ((n : ℕ) → (n ∈ xs) ↔ (n ∈ ys)) → xs ≡ ys
+ascending-unique [] [] p q h = refl
+ascending-unique [] (y ∷ ys) p q h = absurd (List·Memᴰ·not-nil (h y .1 here))
+ascending-unique (x ∷ xs) [] p q h = absurd (List·Memᴰ·not-nil (h x .0 here))
+ascending-unique (x ∷ xs) (y ∷ ys) p q h =
+    let x≤y : y ≤ x = ⊎-elim (λ (e : x ≡ y). omega arith) (λ m. let a = q .0 x m in omega arith) (List·Memᴰ·cases-cons (h x .0 here)) in
+    let y≤x : x ≤ y = ⊎-elim (λ (e : y ≡ x). omega arith) (λ m. let a = p .0 y m in omega arith) (List·Memᴰ·cases-cons (h y .1 here)) in
+    let e : x ≡ y = omega arith in
+    let rest : xs ≡ ys = ascending-unique xs ys (p .1) (q .1) (λ n. (to n e, back n e)) in
+    λ i. e i ∷ rest i
+  where
+    to : (n : ℕ) → x ≡ y → n ∈ xs → n ∈ ys
+    to n e m = ⊎-elim (λ (t : n ≡ y). absurd (let a = p .0 n m in omega arith)) (λ k. k) (List·Memᴰ·cases-cons (h n .0 (there m)))
+
+    back : (n : ℕ) → x ≡ y → n ∈ ys → n ∈ xs
+    back n e m = ⊎-elim (λ (t : n ≡ x). absurd (let a = q .0 n m in omega arith)) (λ k. k) (List·Memᴰ·cases-cons (h n .1 (there m)))
+
+module _ (s : Sheet) (port class room : ℕ) where
+  short : ℕ → Bool
+  short n = noSubsetForces s (forcing s port class) n && ltb room (length (recordsNeeded (withRules s n) (denial port class)))
+
+  causes-short : any short (ruleSets s) ≡ true → causesAnswer s port class room ≡ record { number = 13; out = [] }
+  unfolding causesAnswer short
+  causes-short h = rw (h, causesAnswer)
+
+  causes-listed : any short (ruleSets s) ≡ false → causesAnswer s port class room ≡ record { number = 14; out = listed s port class }
+  unfolding causesAnswer short
+  causes-listed h = rw (h, causesAnswer)
+
+  short-iff : (causesAnswer s port class room .number ≡ 13) ↔ (any short (ruleSets s) ≡ true)
+  short-iff = (
+    λ e. ⊎-elim (λ t. t) (λ t. absurd (let a : _≡_ {A = ℕ} 14 13 = sym (ap (λ (r : Answer). r .number) (causes-listed t)) ∙ e in omega arith)) (cases (any short (ruleSets s))),
+    λ t. ap (λ (r : Answer). r .number) (causes-short t),
+  )
+
+  pub causes-fourteen : causesAnswer s port class room .number ≡ 14 → causesAnswer s port class room .out ≡ listed s port class
+  causes-fourteen e =
+      ⊎-elim
+      (λ (t : any short (ruleSets s) ≡ true). absurd (let a : _≡_ {A = ℕ} 13 14 = sym (ap (λ (r : Answer). r .number) (causes-short t)) ∙ e in omega arith))
+      (λ (t : any short (ruleSets s) ≡ false). ap (λ (r : Answer). r .out) (causes-listed t))
+      (cases (any short (ruleSets s)))
+
+  module _ (wf : WellFormed s) (p< : port < s .individuals) (c< : class < count s) where
+    -- 13 exactly when some set, none of whose proper subsets forces, needs more recordsNeeded than lent
+    pub causes-thirteen : (causesAnswer s port class room .number ≡ 13)
+        ↔ ((n : ℕ) × (n < 2 ^ length (s .rules)) × NoSubsetForces s port class n × (room < length (recordsNeeded (withRules s n) (denial port class))))
+    unfolding short
+    causes-thirteen = (there-, back)
+      where
+        there- : causesAnswer s port class room .number ≡ 13 → (n : ℕ) × (n < 2 ^ length (s .rules)) × NoSubsetForces s port class n × (room < length (recordsNeeded (withRules s n) (denial port class)))
+        there- e =
+            let (n, i, t) = any-elim short (ruleSets s) (short-iff .0 e) in
+            let sm = and-left (noSubsetForces s (forcing s port class) n) (ltb room (length (recordsNeeded (withRules s n) (denial port class)))) t in
+            let lt = and-right (noSubsetForces s (forcing s port class) n) (ltb room (length (recordsNeeded (withRules s n) (denial port class)))) t in
+            (n, upTo-elim (2 ^ length (s .rules)) n i, (λ m m< w ne f. no-subset-elim s wf port class p< c< n sm m m< w ne (forces-at s wf port class p< c< m .1 f)), ltb-true room _ lt)
+
+        back : ((n : ℕ) × (n < 2 ^ length (s .rules)) × NoSubsetForces s port class n × (room < length (recordsNeeded (withRules s n) (denial port class)))) → causesAnswer s port class room .number ≡ 13
+        back (n, n<, least, lt) =
+            short-iff .1 (any-intro short (ruleSets s) (upTo-intro (2 ^ length (s .rules)) n n<)
+            (and-both (noSubsetForces s (forcing s port class) n) _ (no-subset-intro s wf port class p< c< n (λ m m< w ne f. least m m< w ne (forces-at s wf port class p< c< m .0 f))) (lt-ltb room _ lt)))
+
+-- the lines are the same, so e is
+bound-same : (s : Sheet) (n : ℕ) → bound (withRules s n) ≡ bound s
+unfolding bound quantified
+bound-same s n = refl
+
+-- never 13 when e·2^(e-1) are lent, for causesAnswer too
+pub causes-never : (s : Sheet) → WellFormed s → (port class room : ℕ) → port < s .individuals → class < count s → bound s ≤ room → causesAnswer s port class room .number ≡ 13 → ⊥
+causes-never s wf port class room p< c< h e =
+    let (n, n<, _, lt) = causes-thirteen s port class room wf p< c< .0 e in
+    omega (arith, records-bound (withRules s n) (denial port class), bound-same s n)
