@@ -12,4 +12,6 @@ pub mod Model
 pub mod Causes
 pub mod Replies
 pub mod Promises
+pub mod Bench
+pub mod Readings
 pub mod Theorems
