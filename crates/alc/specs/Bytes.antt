@@ -1,12 +1,12 @@
 -- Bytes to sheet: the layout, and the faults 1 to 6 with their places. "7 is tested first, then the sheet from front to back (the first fault answers)".
 -- Document 01, "How a sheet is laid out" and the table of "What the desk replies". Definitions only, over lists of any numbers.
 use Prim.Native.Nat.{ℕ, zero, suc, _+_, _-_, _*_}
-use mathlib.Core.Bool.{Bool, true, false, _||_}
+use mathlib.Core.Bool.{true, false, _||_}
 use mathlib.Core.List.{List, [], _∷_, _++_}
 use lib.ListN.{length, getD}
 use lib.Dec.{ltb, eqb}
 use Rattle.alc.specs.Lists.{each}
-use Rattle.alc.specs.Sheet.{Line, top, bottom, name, not, and, or, some, only, Rule, ClassAssertion, RoleAssertion, Sheet, count, mostLines, nameCount, roleCount, mostRules, mostIndividuals, mostClasses, mostRoles}
+use Rattle.alc.specs.Sheet.{Line, top, bottom, name, not, and, or, some, only, Rule, ClassAssertion, RoleAssertion, Sheet, count, mostLines, nameCount, roleCount, mostRules, mostIndividuals, mostClasses, mostRoles, _⊑_}
 
 -- what reading gives: a refusal with its number and place, or a value and the place behind it
 pub data Read (A : Type 0) : Type 0 where
@@ -59,7 +59,7 @@ lineAt bs own p = then (belowAt bs 8 4 p) (λ k q. operandsAt bs own k q)
 
 -- a rule over n lines; i, its number, does not matter
 unfoldable pub ruleAt : List ℕ → ℕ → ℕ → ℕ → Read Rule
-ruleAt bs n i p = then (belowAt bs n 5 p) (λ c q. then (belowAt bs n 5 q) (λ d t. taken (record { sub = c; sup = d }) t))
+ruleAt bs n i p = then (belowAt bs n 5 p) (λ c q. then (belowAt bs n 5 q) (λ d t. taken (c ⊑ d) t))
 
 -- a class assertion over n lines and k individuals
 unfoldable pub classAt : List ℕ → ℕ → ℕ → ℕ → ℕ → Read ClassAssertion

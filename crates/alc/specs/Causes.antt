@@ -1,6 +1,6 @@
 -- The cause list: sets of rules by number, which of them force, and which are smallest.
 -- Document 01, "The cause list" and answers 13 and 14; demand 3. Definitions only.
-use Prim.Native.Nat.{ℕ, zero, suc, _^_, _<_}
+use Prim.Native.Nat.{ℕ, suc, _^_, _<_}
 use mathlib.Core.Bool.{Bool, true, false, not as flip, _&&_, _||_, cond}
 use mathlib.Core.Path.{_≡_}
 use mathlib.Core.List.{List, [], _∷_, _++_, map}

@@ -1,7 +1,7 @@
 -- The verdict on a sheet: where the work on the individuals begins, the first settled joint label whose seeds are all satisfiable, the records needed.
 -- Document 01, "Labels and the order of the rules", to its end. Definitions only.
 use Prim.Native.Nat.{ℕ, max}
-use mathlib.Core.Bool.{Bool, true}
+use mathlib.Core.Bool.{true}
 use mathlib.Core.Path.{_≡_}
 use mathlib.Core.List.{List, [], _∷_, _++_, map}
 use lib.ListN.{replicate}

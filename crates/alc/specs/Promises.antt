@@ -1,6 +1,6 @@
 -- What the public functions promise: the whole reply, and beside it the demands in their own words, so that nobody has to believe the replies' definitions.
 -- The demands of the customer, and document 01, "Pinning every answer down". Definitions only; Theorems.Promises has the proofs.
-use Prim.Native.Nat.{ℕ, _+_, _^_, _≤_, _<_}
+use Prim.Native.Nat.{ℕ, _^_, _≤_, _<_}
 use mathlib.Core.Path.{_≡_}
 use mathlib.Core.Logic.{_↔_, _⊎_}
 use mathlib.Core.List.{List, []}
@@ -8,7 +8,7 @@ use lib.ListN.{length, take, drop, replicate}
 use lib.IntN.{ℤ, pos, _+ℤ_}
 use Rattle.alc.specs.Lists.{_∈_, Ascending}
 use Rattle.alc.specs.Sheet.{Sheet, count}
-use Rattle.alc.specs.Bytes.{Read, refused, taken, readSheet}
+use Rattle.alc.specs.Bytes.{refused, taken, readSheet}
 use Rattle.alc.specs.Meaning.{SheetSatisfiable}
 use Rattle.alc.specs.Seeds.{bound}
 use Rattle.alc.specs.Judge.{recordsNeeded}

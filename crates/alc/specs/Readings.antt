@@ -7,7 +7,7 @@ use lib.ListN.{length, replicate}
 use lib.IntN.{pos, negsuc}
 use Rattle.alc.specs.Lists.{each}
 use Rattle.alc.specs.Replies.{Balance, faulty, left, balanceReply}
-use Rattle.alc.specs.Bench.{Lent, Query, judged, caused, lending, answerTo, Row, ends, answers, expectations, computing, P1, P5, P6, P9, P11, lentTo}
+use Rattle.alc.specs.Bench.{Query, judged, caused, lending, Row, ends, answers, expectations, computing, P1, P5, P6, P9, P11, lentTo}
 
 -- a sheet, the records that it needs, and its answer with exactly those; with one record less it is 13
 pub record Witness : Type 0 where
@@ -68,7 +68,7 @@ witnesses =
     -- highest individual first
     ∷ tells (4 ∷ 2 ∷ 29 ∷ 0 ∷ 6 ∷ 1 ∷ 0 ∷ 5 ∷ 0 ∷ 2 ∷ 1 ∷ 2 ∷ 1 ∷ 2 ∷ 1 ∷ 1 ∷ 3 ∷ 1 ∷ 1 ∷ 0 ∷ 1 ∷ []) 1 10 (3 ∷ 0 ∷ 0 ∷ 536870912 ∷ 2 ∷ 0 ∷ 1 ∷ 1 ∷ 1 ∷ 1 ∷ 2 ∷ [])
     -- all holds, then all fails
-    ∷ tells (11 ∷ 2 ∷ 2 ∷ 3 ∷ 0 ∷ 3 ∷ 0 ∷ 7 ∷ 0 ∷ 1 ∷ 5 ∷ 3 ∷ 0 ∷ 7 ∷ 0 ∷ 3 ∷ 6 ∷ 0 ∷ 1 ∷ 5 ∷ 0 ∷ 6 ∷ 0 ∷ 6 ∷ 0 ∷ 7 ∷ 7 ∷ 0 ∷ 4 ∷ 5 ∷ 9 ∷ 10 ∷ 4 ∷ 0 ∷ 5 ∷ 7 ∷ 6 ∷ 4 ∷ 7 ∷ 8 ∷ 0 ∷ 0 ∷ 0 ∷ []) 6 10 (5 ∷ 4 ∷ 0 ∷ 4 ∷ 4 ∷ 4 ∷ 8 ∷ 0 ∷ 0 ∷ 1 ∷ 1 ∷ 0 ∷ 2 ∷ 1 ∷ 0 ∷ 3 ∷ 2 ∷ 0 ∷ 1 ∷ 3 ∷ 0 ∷ 2 ∷ 3 ∷ 0 ∷ 4 ∷ 4 ∷ 0 ∷ 2 ∷ 4 ∷ 0 ∷ 4 ∷ [])
+    ∷ tells (6 ∷ 2 ∷ 0 ∷ 2 ∷ 1 ∷ 2 ∷ 2 ∷ 4 ∷ 0 ∷ 1 ∷ 3 ∷ 3 ∷ 5 ∷ 0 ∷ 2 ∷ 0 ∷ 1 ∷ 2 ∷ 0 ∷ 4 ∷ 0 ∷ 5 ∷ 0 ∷ []) 0 10 (1 ∷ 4 ∷ 0 ∷ [])
     -- "both hold" adds the first operand first and starts again
     ∷ tells (15 ∷ 0 ∷ 2 ∷ 1 ∷ 1 ∷ 5 ∷ 0 ∷ 1 ∷ 7 ∷ 1 ∷ 3 ∷ 2 ∷ 2 ∷ 7 ∷ 1 ∷ 2 ∷ 2 ∷ 3 ∷ 6 ∷ 1 ∷ 5 ∷ 5 ∷ 5 ∷ 8 ∷ 3 ∷ 7 ∷ 2 ∷ 2 ∷ 3 ∷ 10 ∷ 6 ∷ 0 ∷ 9 ∷ 4 ∷ 9 ∷ 5 ∷ 4 ∷ 13 ∷ 14 ∷ 4 ∷ 14 ∷ 12 ∷ 13 ∷ 11 ∷ 14 ∷ 0 ∷ 0 ∷ 0 ∷ []) 1 10 (1 ∷ 4 ∷ 0 ∷ [])
     ∷ []
@@ -96,6 +96,14 @@ twoPorts = 3 ∷ 2 ∷ 0 ∷ 2 ∷ 1 ∷ 2 ∷ 2 ∷ 3 ∷ 0 ∷ 1 ∷ 1 ∷ 2 �
 -- A(a) and not A(a), and one rule
 contradicted : List ℕ
 contradicted = 3 ∷ 2 ∷ 0 ∷ 3 ∷ 0 ∷ 2 ∷ 1 ∷ 1 ∷ 0 ∷ 2 ∷ 1 ∷ 2 ∷ 0 ∷ 0 ∷ 0 ∷ 1 ∷ 0 ∷ []
+
+-- lines A, only 0 A; one port, of which nothing is asserted
+denied : List ℕ
+denied = 2 ∷ 2 ∷ 0 ∷ 7 ∷ 0 ∷ 0 ∷ 0 ∷ 1 ∷ 0 ∷ 0 ∷ []
+
+-- lines A, B, bottom, some 0 bottom, some 1 B; rules A ⊑ some 0 bottom, A ⊑ some 1 B; one port, in A
+overshadowed : List ℕ
+overshadowed = 5 ∷ 2 ∷ 0 ∷ 2 ∷ 1 ∷ 1 ∷ 6 ∷ 0 ∷ 2 ∷ 6 ∷ 1 ∷ 1 ∷ 2 ∷ 0 ∷ 3 ∷ 0 ∷ 4 ∷ 1 ∷ 1 ∷ 0 ∷ 0 ∷ 0 ∷ []
 
 pub limitRows : List Row
 limitRows =
@@ -159,13 +167,18 @@ limitRows =
     ∷ ends P9 (caused 0 2 (lending 0 2)) 14 2 (3 ∷ 4 ∷ [])
     ∷ ends P11 (caused 0 3 (lending 1 0)) 15 1 []
     ∷ ends P11 (caused 0 3 (lending 0 0)) 13 0 []
+    -- a set that does not force counts for 13, and so does the seed of class fails; a set with a forcing subset does not
+    ∷ ends denied (caused 0 1 (lending 0 1)) 13 0 (0 ∷ [])
+    ∷ ends denied (caused 0 1 (lending 1 1)) 14 0 (0 ∷ [])
+    ∷ ends overshadowed (caused 0 1 (lending 0 1)) 13 0 (0 ∷ [])
+    ∷ ends overshadowed (caused 0 1 (lending 1 1)) 14 1 (1 ∷ [])
     -- nothing forces a port of which nothing is said; contradictory assertions force everything, by no rule at all
     ∷ ends twoPorts (caused 1 2 (lending 0 1)) 14 0 (0 ∷ [])
     ∷ ends contradicted (caused 0 2 (lending 0 2)) 14 1 (0 ∷ 0 ∷ [])
     ∷ []
 
 pub limits : answers limitRows ≡ expectations limitRows
-unfolding limitRows twoPorts contradicted P1 P6 P9 P11 computing
+unfolding limitRows twoPorts contradicted denied overshadowed P1 P6 P9 P11 computing
 limits = refl
 
 -- ---- balances around zero

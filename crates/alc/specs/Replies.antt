@@ -1,7 +1,7 @@
 -- The whole replies of the public functions, over the bytes and buffers lent: number, what it carries, and what each buffer ends as.
 -- Document 01, "What the desk replies". Definitions only.
 use Prim.Native.Nat.{ℕ, suc, _-_}
-use mathlib.Core.Bool.{Bool, true, false, _&&_, _||_}
+use mathlib.Core.Bool.{true, false, _&&_, _||_}
 use mathlib.Core.List.{List, [], _++_}
 use lib.ListN.{length, replicate}
 use lib.Dec.{ltb, leb, eqb}

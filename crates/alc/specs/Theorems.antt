@@ -1,6 +1,7 @@
 -- The theorems: that the definitions mean what the demands say. No definition rests on them.
 pub mod Bits
 pub mod Lists
+pub mod Sorted
 pub mod Counting
 pub mod Sheet
 pub mod Meaning
@@ -21,3 +22,6 @@ pub mod Decides
 pub mod Records
 pub mod Causes
 pub mod Answers
+pub mod Bytes
+pub mod Words
+pub mod Promises

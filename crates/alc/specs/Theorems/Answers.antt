@@ -3,7 +3,7 @@ use Prim.Native.Nat.{ℕ, zero, suc, _^_, _≤_, _<_}
 use mathlib.Core.Bool.{Bool, true, false, _&&_}
 use mathlib.Core.Path.{_≡_, refl, sym, _∙_, ap}
 use mathlib.Core.Logic.{_↔_, _⊎_, inl, inr, ⊎-elim}
-use mathlib.Core.List.{List, [], _∷_, List·Memᴰ·not-nil, List·Memᴰ·cases-cons}
+use mathlib.Core.List.{List, [], _∷_, List·Memᴰ·not-nil}
 use lib.ListN.{length, getD}
 use lib.Dec.{ltb}
 use borrow.Author.Tests.{ltb-true, ltb-false, lt-ltb, le-ltb}
@@ -14,22 +14,20 @@ use Rattle.alc.specs.Meaning.{SheetSatisfiable}
 use Rattle.alc.specs.Settle.{Joint}
 use Rattle.alc.specs.Seeds.{bound, quantified}
 use Rattle.alc.specs.Judge.{recordsNeeded, Entry, firstFine}
-use Rattle.alc.specs.Model.{satisfyAnswer, Answer, told}
+use Rattle.alc.specs.Model.{satisfyAnswer, Answer, told, modelWords}
 use Rattle.alc.specs.Causes.{denial, causesAnswer, forcing, noSubsetForces, ruleSets, NoSubsetForces, listed, withRules}
-use Rattle.alc.specs.Theorems.Lists.{and-both, cases, there, any-intro, upTo-intro, filter-elim, and-left, and-right, from-elim, here, any-elim, filter-step, upTo-elim}
+use Rattle.alc.specs.Theorems.Lists.{and-both, cases, any-intro, upTo-intro, filter-elim, and-left, and-right, from-elim, any-elim, filter-step, upTo-elim}
+use Rattle.alc.specs.Theorems.Sorted.{Sorted, sorted-unique}
 use Rattle.alc.specs.Theorems.Sheet.{WellFormed}
-use Rattle.alc.specs.Theorems.Decides.{found-satisfiable, satisfiable-found}
+use Rattle.alc.specs.Theorems.Decides.{satisfiable-found}
 use Rattle.alc.specs.Theorems.Records.{records-bound}
 use Rattle.alc.specs.Theorems.Causes.{forces-at, no-subset-elim, no-subset-intro}
 
--- ---- demand 2, over the satisfyAnswer itself
+-- ---- demand 2, over the reply itself
 no-extra : (x : Entry) → x ∈ [] → ⊥
 no-extra x h = List·Memᴰ·not-nil h
 
 module _ (s : Sheet) (room : ℕ) where
-  pub Enough : Type 0
-  Enough = length (recordsNeeded s []) ≤ room
-
   reply-short : room < length (recordsNeeded s []) → satisfyAnswer s room ≡ record { number = 13; out = [] }
   unfolding satisfyAnswer
   reply-short h = rw (lt-ltb room (length (recordsNeeded s [])) h, satisfyAnswer)
@@ -42,7 +40,7 @@ module _ (s : Sheet) (room : ℕ) where
   told-not-13 nothing e = omega arith
   told-not-13 (just K) e = omega arith
 
-  -- out of space exactly when the recordsNeeded needed outnumber those lent
+  -- out of space exactly when the records needed outnumber those lent
   pub thirteen-is : (satisfyAnswer s room .number ≡ 13) ↔ (room < length (recordsNeeded s []))
   thirteen-is = (there-, λ h. ap (λ (r : Answer). r .number) (reply-short h))
     where
@@ -57,27 +55,28 @@ module _ (s : Sheet) (room : ℕ) where
   pub thirteen-never : bound s ≤ room → satisfyAnswer s room .number ≡ 13 → ⊥
   thirteen-never h e = let a = thirteen-is .0 e in omega (arith, records-bound s [])
 
-  module _ (wf : WellFormed s) where
-    go10 : (o : Maybe Joint) → firstFine s [] ≡ o → told s o .number ≡ 10 → SheetSatisfiable s
-    go10 nothing q e = absurd (omega arith)
-    go10 (just K) q e = let (I, m, _) = found-satisfiable s wf [] (λ x h. absurd (no-extra x h)) K q in (I, m)
+  enough : satisfyAnswer s room .number ≡ 13 ⊎ (length (recordsNeeded s []) ≤ room)
+  enough = ⊎-elim (λ t. inl (thirteen-is .1 (ltb-true room _ t))) (λ t. inr (ltb-false room _ t)) (cases (ltb room (length (recordsNeeded s []))))
 
+  -- at 10, a joint label is found, and its model is written
+  pub ten-found : satisfyAnswer s room .number ≡ 10 → (K : Joint) × (firstFine s [] ≡ just K) × (satisfyAnswer s room .out ≡ modelWords s K)
+  ten-found e =
+      ⊎-elim
+      (λ t. absurd (let a : _≡_ {A = ℕ} 13 10 = sym t ∙ e in omega arith))
+      (λ t. rw (reply-told t) (go (firstFine s []) refl (sym (ap (λ (r : Answer). r .number) (reply-told t)) ∙ e)))
+      enough
+    where
+      go : (o : Maybe Joint) → firstFine s [] ≡ o → told s o .number ≡ 10 → (K : Joint) × (firstFine s [] ≡ just K) × (told s (firstFine s []) .out ≡ modelWords s K)
+      go nothing q e = absurd (omega arith)
+      go (just K) q e = (K, q, ap (λ (o : Maybe Joint). told s o .out) q)
+
+  module _ (wf : WellFormed s) where
     go12 : (o : Maybe Joint) → firstFine s [] ≡ o → told s o .number ≡ 12 → SheetSatisfiable s → ⊥
     go12 nothing q e (I, m) =
         let (K, p) = satisfiable-found s wf [] (I, m, λ x h. absurd (no-extra x h)) in
         let z : _≡_ {A = Maybe Joint} nothing (just K) = sym q ∙ p in
         let y : _≡_ {A = ℕ} 0 1 = cc in omega arith
     go12 (just K) q e sat = omega arith
-
-    enough : satisfyAnswer s room .number ≡ 13 ⊎ (length (recordsNeeded s []) ≤ room)
-    enough = ⊎-elim (λ t. inl (thirteen-is .1 (ltb-true room _ t))) (λ t. inr (ltb-false room _ t)) (cases (ltb room (length (recordsNeeded s []))))
-
-    pub ten-only : satisfyAnswer s room .number ≡ 10 → SheetSatisfiable s
-    ten-only e =
-        ⊎-elim
-        (λ t. absurd (let a : _≡_ {A = ℕ} 13 10 = sym t ∙ e in omega arith))
-        (λ t. go10 (firstFine s []) refl (sym (ap (λ (r : Answer). r .number) (reply-told t)) ∙ e))
-        enough
 
     pub twelve-only : satisfyAnswer s room .number ≡ 12 → SheetSatisfiable s → ⊥
     twelve-only e =
@@ -110,22 +109,12 @@ pub listed-ascending : (s : Sheet) (port class : ℕ) → Ascending (listed s po
 unfolding listed
 listed-ascending s port class = filter-ascending (λ n. noSubsetForces s (forcing s port class) n && getD (forcing s port class) n false) 0 (2 ^ length (s .rules))
 
-pub ascending-unique : (xs ys : List ℕ) → Ascending xs → Ascending ys → ((n : ℕ) → (n ∈ xs) ↔ (n ∈ ys)) → xs ≡ ys
-ascending-unique [] [] p q h = refl
-ascending-unique [] (y ∷ ys) p q h = absurd (List·Memᴰ·not-nil (h y .1 here))
-ascending-unique (x ∷ xs) [] p q h = absurd (List·Memᴰ·not-nil (h x .0 here))
-ascending-unique (x ∷ xs) (y ∷ ys) p q h =
-    let x≤y : y ≤ x = ⊎-elim (λ (e : x ≡ y). omega arith) (λ m. let a = q .0 x m in omega arith) (List·Memᴰ·cases-cons (h x .0 here)) in
-    let y≤x : x ≤ y = ⊎-elim (λ (e : y ≡ x). omega arith) (λ m. let a = p .0 y m in omega arith) (List·Memᴰ·cases-cons (h y .1 here)) in
-    let e : x ≡ y = omega arith in
-    let rest : xs ≡ ys = ascending-unique xs ys (p .1) (q .1) (λ n. (to n e, back n e)) in
-    λ i. e i ∷ rest i
-  where
-    to : (n : ℕ) → x ≡ y → n ∈ xs → n ∈ ys
-    to n e m = ⊎-elim (λ (t : n ≡ y). absurd (let a = p .0 n m in omega arith)) (λ k. k) (List·Memᴰ·cases-cons (h n .0 (there m)))
+ascending-sorted : (xs : List ℕ) → Ascending xs → Sorted _<_ xs
+ascending-sorted [] p = tt
+ascending-sorted (x ∷ xs) p = (p .0, ascending-sorted xs (p .1))
 
-    back : (n : ℕ) → x ≡ y → n ∈ ys → n ∈ xs
-    back n e m = ⊎-elim (λ (t : n ≡ x). absurd (let a = q .0 n m in omega arith)) (λ k. k) (List·Memᴰ·cases-cons (h n .1 (there m)))
+pub ascending-unique : (xs ys : List ℕ) → Ascending xs → Ascending ys → ((n : ℕ) → (n ∈ xs) ↔ (n ∈ ys)) → xs ≡ ys
+ascending-unique xs ys p q h = sorted-unique _<_ (λ x y a b. omega arith) xs ys (ascending-sorted xs p) (ascending-sorted ys q) h
 
 module _ (s : Sheet) (port class room : ℕ) where
   short : ℕ → Bool
@@ -152,11 +141,19 @@ module _ (s : Sheet) (port class room : ℕ) where
       (λ (t : any short (ruleSets s) ≡ false). ap (λ (r : Answer). r .out) (causes-listed t))
       (cases (any short (ruleSets s)))
 
+  -- there is no other number
+  pub two-only : (causesAnswer s port class room .number ≡ 13) ⊎ (causesAnswer s port class room .number ≡ 14)
+  two-only =
+      ⊎-elim
+      (λ (t : any short (ruleSets s) ≡ true). inl (ap (λ (r : Answer). r .number) (causes-short t)))
+      (λ (t : any short (ruleSets s) ≡ false). inr (ap (λ (r : Answer). r .number) (causes-listed t)))
+      (cases (any short (ruleSets s)))
+
   module _ (wf : WellFormed s) (p< : port < s .individuals) (c< : class < count s) where
-    -- 13 exactly when some set, none of whose proper subsets forces, needs more recordsNeeded than lent
+    -- 13 exactly when some set, none of whose proper subsets forces, needs more records than lent
     pub causes-thirteen : (causesAnswer s port class room .number ≡ 13)
         ↔ ((n : ℕ) × (n < 2 ^ length (s .rules)) × NoSubsetForces s port class n × (room < length (recordsNeeded (withRules s n) (denial port class))))
-    unfolding short
+    unfolding short NoSubsetForces
     causes-thirteen = (there-, back)
       where
         there- : causesAnswer s port class room .number ≡ 13 → (n : ℕ) × (n < 2 ^ length (s .rules)) × NoSubsetForces s port class n × (room < length (recordsNeeded (withRules s n) (denial port class)))
@@ -176,7 +173,7 @@ bound-same : (s : Sheet) (n : ℕ) → bound (withRules s n) ≡ bound s
 unfolding bound quantified
 bound-same s n = refl
 
--- never 13 when e·2^(e-1) are lent, for causesAnswer too
+-- never 13 when e·2^(e-1) are lent, for causes too
 pub causes-never : (s : Sheet) → WellFormed s → (port class room : ℕ) → port < s .individuals → class < count s → bound s ≤ room → causesAnswer s port class room .number ≡ 13 → ⊥
 causes-never s wf port class room p< c< h e =
     let (n, n<, _, lt) = causes-thirteen s port class room wf p< c< .0 e in

@@ -1,16 +1,18 @@
--- Sets of small numbers, as numbers: i is in the set s where bit i of s is set. So a set of lines is one machine word.
-use Prim.Native.Nat.{ℕ, zero, suc, _+_, _*_, _/_, _%_, _^_, _≤_, _<_, max}
-use mathlib.Core.Bool.{Bool, true, false}
+-- The laws of sets as numbers: members of a set that another member was put into or taken from, equality by members, the machine's words.
+use Prim.Native.Nat.{ℕ, zero, suc, _+_, _-_, _*_, _/_, _%_, _^_, _≤_, _<_, max}
+use mathlib.Core.Bool.{Bool, true, false, true≢false, _||_}
 use mathlib.Core.Path.{_≡_, refl, sym, _∙_, ap, ap₂}
 use native.Mathlib.Nat.{div-div-eq-div-mul, div-one, pow-succ', one-mul}
+use native.Mathlib.Decide.{decLt}
 use native.Mathlib.Omega.{arith}
 use lib.Dec.{eqb, lit<}
 use lib.Pow.{shl-exact}
 use lib.Bits.{bitOr, or-step, or-zero-r}
-use borrow.Author.Tests.{eqb-true, eqb-false, eq-eqb}
+use borrow.Author.Tests.{eqb-true, eqb-false, eq-eqb, ne-eqb}
 use Rattle.alc.specs.Bits.{bit, put}
+use mathlib.Core.Logic.{⊎-elim}
+use Rattle.alc.specs.Theorems.Lists.{cases, tests-same, or-left, or-right, or-cases}
 
--- ---- the laws, from here on all that is used
 bit-suc : (s i : ℕ) → bit s (suc i) ≡ bit (s / 2) i
 unfolding bit
 bit-suc s i = ap (λ (x : ℕ). eqb (x % 2) 1) (ap (λ (x : ℕ). s / x) (pow-succ' 2 i) ∙ sym (div-div-eq-div-mul s 2 (2 ^ i)))
@@ -70,6 +72,12 @@ pub bit-none : (i : ℕ) → bit 0 i ≡ false
 bit-none zero = bit-zero 0
 bit-none (suc i) = bit-suc 0 i ∙ bit-none i
 
+-- a number below 2 ^ n has no bit from n on
+pub bit-small : (n s i : ℕ) → s < 2 ^ n → n ≤ i → bit s i ≡ false
+bit-small zero s i h g = let e : s ≡ 0 = omega arith in rw e (bit-none i)
+bit-small (suc n) s zero h g = absurd (omega arith)
+bit-small (suc n) s (suc i) h g = bit-suc s i ∙ bit-small n (s / 2) i (omega (arith, pow-succ' 2 n)) (omega arith)
+
 low-bit : (s t : ℕ) → bit s 0 ≡ bit t 0 → s % 2 ≡ t % 2
 low-bit s t e = go (eqb (s % 2) 1) refl
   where
@@ -90,15 +98,44 @@ ext-below (suc n) s t hs ht h =
     let low : s % 2 ≡ t % 2 = low-bit s t (h 0) in
     omega arith
 
--- split sets with the same members are onward number
+-- two sets with the same members are one number
 pub bit-ext : (s t : ℕ) → ((i : ℕ) → bit s i ≡ bit t i) → s ≡ t
 bit-ext s t h = ext-below (s + t) s t (omega arith) (omega arith) h
+
+-- below 2 ^ n, the bits below n are enough
+pub bit-ext-below : (n s t : ℕ) → s < 2 ^ n → t < 2 ^ n → ((i : ℕ) → i < n → bit s i ≡ bit t i) → s ≡ t
+bit-ext-below n s t s< t< h =
+    bit-ext s t (λ i. elim (decLt i n) [ yes b ↦ h i b | no b ↦ bit-small n s i s< (omega arith) ∙ sym (bit-small n t i t< (omega arith)) ])
 
 half-pow : (i : ℕ) → 2 ^ suc i / 2 ≡ 2 ^ i
 half-pow i = omega (arith, pow-succ' 2 i)
 
 even-pow : (i : ℕ) → 2 ^ suc i % 2 ≡ 0
 even-pow i = omega (arith, pow-succ' 2 i)
+
+-- a member is worth no more than its set, which lacks it once that is taken away
+without : (s i : ℕ) → bit s i ≡ true → (2 ^ i ≤ s) × (bit (s - 2 ^ i) i ≡ false)
+without s zero e =
+    let odd : s % 2 ≡ 1 = eqb-true (s % 2) 1 (sym (bit-zero s) ∙ e) in
+    (omega arith, bit-zero (s - 1) ∙ ne-eqb ((s - 1) % 2) 1 (omega arith))
+without s (suc i) e =
+    let (le, none) = without (s / 2) i (sym (bit-suc s i) ∙ e) in
+    let half : (s - 2 ^ suc i) / 2 ≡ s / 2 - 2 ^ i = omega (arith, pow-succ' 2 i) in
+    (omega (arith, pow-succ' 2 i), bit-suc (s - 2 ^ suc i) i ∙ rw half none)
+
+pub bit-le : (s i : ℕ) → bit s i ≡ true → 2 ^ i ≤ s
+bit-le s i e = without s i e .0
+
+-- the members of a set of numbers below k
+pub bit-below : (s k i : ℕ) → s < 2 ^ k → bit s i ≡ true → i < k
+bit-below s k i h e = elim (decLt i k) [ yes l ↦ l | no l ↦ absurd (true≢false (sym e ∙ bit-small k s i h (omega arith))) ]
+
+-- a set without one member has the others
+pub bit-without-other : (s i j : ℕ) → bit s i ≡ true → (i ≡ j → ⊥) → bit (s - 2 ^ i) j ≡ bit s j
+bit-without-other s i j e ne =
+    let (le, none) = without s i e in
+    let back : put (s - 2 ^ i) i ≡ s = put-false (s - 2 ^ i) i none ∙ omega arith in
+    sym (bit-put-other (s - 2 ^ i) i j ne) ∙ ap (λ (x : ℕ). bit x j) back
 
 -- how a program puts a bit
 pub put-or : (i s : ℕ) → bitOr s (2 ^ i) ≡ put s i
@@ -117,6 +154,22 @@ put-or (suc i) s =
     ∙ ap₂ (λ (x y : ℕ). x * 2 + y) (put-or i (s / 2)) (omega arith)
     ∙ sym (put-suc s i)
 
--- the machine's onward, shifted: over the width, so that onward law serves every word
+-- the machine's one, shifted: over the width, so that one law serves every word
 pub put-word : (w i s : ℕ) → i < w → bitOr s (1 * 2 ^ i % 2 ^ w) ≡ put s i
 put-word w i s h = ap (bitOr s) (shl-exact 1 i w (lit< tt) (omega arith) ∙ one-mul (2 ^ i)) ∙ put-or i s
+
+-- ---- the machine's `|` is the union
+test-max : (a b : ℕ) → a < 2 → b < 2 → eqb (max a b) 1 ≡ (eqb a 1 || eqb b 1)
+test-max a b p q =
+    tests-same (eqb (max a b) 1) (eqb a 1 || eqb b 1)
+    (λ e. let m : max a b ≡ 1 = eqb-true (max a b) 1 e in
+    ⊎-elim (λ t. or-left (eqb a 1) (eqb b 1) t) (λ t. or-right (eqb a 1) (eqb b 1) (eq-eqb b 1 (omega (arith, eqb-false a 1 t)))) (cases (eqb a 1)))
+    (λ e. eq-eqb (max a b) 1 (⊎-elim (λ t. omega (arith, eqb-true a 1 t)) (λ t. omega (arith, eqb-true b 1 t)) (or-cases (eqb a 1) (eqb b 1) e)))
+
+pub bit-or : (s t i : ℕ) → bit (bitOr s t) i ≡ (bit s i || bit t i)
+bit-or s t zero =
+    let low : bitOr s t % 2 ≡ max (s % 2) (t % 2) = omega (arith, or-step s t) in
+    rw (bit-zero (bitOr s t), bit-zero s, bit-zero t, low) (test-max (s % 2) (t % 2) (omega arith) (omega arith))
+bit-or s t (suc i) =
+    let half : bitOr s t / 2 ≡ bitOr (s / 2) (t / 2) = omega (arith, or-step s t) in
+    rw (bit-suc (bitOr s t) i, bit-suc s i, bit-suc t i, half) (bit-or (s / 2) (t / 2) i)

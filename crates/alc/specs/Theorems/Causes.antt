@@ -1,23 +1,26 @@
--- What the cause list speaks of: `forces` is what its name says.
-use Prim.Native.Nat.{ℕ, zero, suc, _+_, _^_, _<_, max}
-use mathlib.Core.Bool.{Bool, true, false, not as flip, _&&_, cond, false≢true}
+-- What the cause list speaks of: `forces` is what its name says; and that leaving out one rule at a time tells whether any proper subset forces.
+use Prim.Native.Nat.{ℕ, zero, suc, _+_, _-_, _^_, _<_, max}
+use mathlib.Core.Bool.{Bool, true, false, not as flip, _&&_, _||_, cond, false≢true}
 use mathlib.Core.Path.{_≡_, refl, sym, _∙_, ap, subst}
 use mathlib.Core.Logic.{_↔_, ⊎-elim}
-use mathlib.Core.List.{List, [], _∷_, map, List·Memᴰ·eq-of-singleton, List·Memᴰ·head, List·Memᴰ·tail, List·Memᴰ·append-cases}
+use mathlib.Core.List.{List, [], _∷_, map, List·Memᴰ·eq-of-singleton, List·Memᴰ·head, List·Memᴰ·tail, List·Memᴰ·append-cases, Memᴰ·append-left, Memᴰ·append-right, Memᴰ·cast}
 use lib.ListN.{length, getD}
 use lib.Dec.{eqb}
+use lib.Pow.{pow-pos}
 use borrow.Author.Tests.{not-true, eqb-false, ne-eqb}
 use native.Mathlib.Omega.{arith}
 use Rattle.alc.specs.Bits.{bit}
-use Rattle.alc.specs.Lists.{_∈_, nothing, Maybe, just, filter, from}
-use Rattle.alc.specs.Sheet.{count, Rule, Sheet}
-use Rattle.alc.specs.Meaning.{truth, Forces}
+use Rattle.alc.specs.Lists.{_∈_, nothing, Maybe, just, filter, from, upTo, all}
+use Rattle.alc.specs.Sheet.{count, Rule, ClassAssertion, Sheet}
+use Rattle.alc.specs.Meaning.{truth, Forces, meetsRules, meetsClasses, meetsRoles}
 use Rattle.alc.specs.Label.{lineOf, markTrue, fails}
 use Rattle.alc.specs.Settle.{Joint}
 use Rattle.alc.specs.Judge.{Entry, EntriesTrue, firstFine}
-use Rattle.alc.specs.Causes.{keepRules, denial, within, forcing, noSubsetForces, Cause, listed, isNothing, withRules, ruleSets, forces}
-use Rattle.alc.specs.Theorems.Lists.{and-both, and-right, filter-intro, cond-elim, clashing, cases, all-intro, here, all-elim, upTo-intro, filter-elim, and-left, upTo-elim}
+use Rattle.alc.specs.Causes.{keepRules, denial, within, NoSubsetForces, forcing, noSubsetForces, Cause, listed, isNothing, withRules, ruleSets, forces}
+use Rattle.alc.specs.Theorems.Lists.{and-both, and-right, filter-intro, implies, implied, tests-same, same?, all-fails, not-of-false, or-false-left, or-false-right, cond-intro, cond-elim, clashing, cases, all-intro, here, all-elim, upTo-intro, filter-elim, and-left, upTo-elim}
 use Rattle.alc.specs.Theorems.Sheet.{WellFormed}
+use Rattle.alc.specs.Theorems.Bits.{bit-le, bit-below, bit-ext, bit-without-other}
+use Rattle.alc.specs.Theorems.Meaning.{truth-lines, rules-intro, rules-elim}
 use Rattle.alc.specs.Theorems.Decides.{found-satisfiable, EntriesFit, satisfiable-found}
 
 module _ (s : Sheet) (wf : WellFormed s) (port class : ℕ) (p< : port < s .individuals) (c< : class < count s) where
@@ -57,6 +60,15 @@ keepRules-in n i (q ∷ rs) r h =
     (λ m. List·Memᴰ·tail (keepRules-in n (suc i) rs r m))
     (List·Memᴰ·append-cases (cond (bit n i) (q ∷ []) []) h)
 
+-- a rule is kept by every set that has the numbers of a set that keeps it
+keepRules-mono : (m n i : ℕ) (rs : List Rule) → ((j : ℕ) → j < i + length rs → bit m j ≡ true → bit n j ≡ true) → (r : Rule) → r ∈ keepRules m i rs → r ∈ keepRules n i rs
+keepRules-mono m n i [] h r k = k
+keepRules-mono m n i (q ∷ rs) h r k =
+    ⊎-elim
+    (λ a. let (e, p) = cond-elim (bit m i) a in Memᴰ·append-left (keepRules n (suc i) rs) (Memᴰ·cast p (cond-intro (bit n i) (h i (omega arith) e))))
+    (λ a. Memᴰ·append-right (cond (bit n i) (q ∷ []) []) (keepRules-mono m n (suc i) rs (λ j j<. h j (omega arith)) r a))
+    (List·Memᴰ·append-cases (cond (bit m i) (q ∷ []) []) k)
+
 pub kept-well-formed : (s : Sheet) → WellFormed s → (n : ℕ) → WellFormed (withRules s n)
 kept-well-formed s wf n = record { operands = wf .operands; rules = λ r h. wf .rules r (keepRules-in n 0 (s .rules) r h); classes = wf .classes; roles = wf .roles }
 
@@ -95,7 +107,7 @@ module _ (s : Sheet) (wf : WellFormed s) (port class : ℕ) (p< : port < s .indi
       (λ t. ap flip t)
       (cases (W && E && G)))
 
-  -- the list has the causesAnswer, and nothing else
+  -- the list has the causes, and nothing else
   pub listed-is : (n : ℕ) → (n ∈ listed s port class) ↔ Cause s port class n
   unfolding listed
   listed-is n = (there, back)
@@ -115,3 +127,56 @@ module _ (s : Sheet) (wf : WellFormed s) (port class : ℕ) (p< : port < s .indi
       back c =
           filter-intro (λ n. noSubsetForces s (forcing s port class) n && getD (forcing s port class) n false) (ruleSets s) (upTo-intro (2 ^ length (s .rules)) n (c .is-set))
           (and-both (noSubsetForces s (forcing s port class) n) _ (no-subset-intro n (λ m m< w ne f. c .least m m< w ne (forces-at m .0 f))) (forcing-at n (c .is-set) ∙ forces-at n .1 (c .forced)))
+
+-- ---- more rules force more
+within-elim : (t m n : ℕ) → within t m n ≡ true → (j : ℕ) → j < t → bit m j ≡ true → bit n j ≡ true
+within-elim t m n w j j< = implies (bit m j) (bit n j) (all-elim (λ i. flip (bit m i) || bit n i) (upTo t) w j (upTo-intro t j j<))
+
+within-intro : (t m n : ℕ) → ((j : ℕ) → bit m j ≡ true → bit n j ≡ true) → within t m n ≡ true
+within-intro t m n h = all-intro (λ i. flip (bit m i) || bit n i) (upTo t) (λ j i. implied (bit m j) (bit n j) (h j))
+
+-- two sets of the first t rules, each within the other, are one
+within-both : (t m n : ℕ) → m < 2 ^ t → n < 2 ^ t → within t m n ≡ true → within t n m ≡ true → m ≡ n
+within-both t m n m< n< w v = bit-ext m n (λ j.
+    tests-same (bit m j) (bit n j) (λ e. within-elim t m n w j (bit-below m t j m< e) e) (λ e. within-elim t n m v j (bit-below n t j n< e) e))
+
+-- what a set of rules forces, a set that has all of them forces
+pub forces-mono : (s : Sheet) (port class m n : ℕ) → within (length (s .rules)) m n ≡ true → Forces (withRules s m) port class → Forces (withRules s n) port class
+unfolding meetsClasses meetsRoles
+forces-mono s port class m n w f I e =
+    let few = withRules s m in
+    let many = withRules s n in
+    let same : truth many I ≡ truth few I = truth-lines many few refl I in
+    let rules : meetsRules many I ≡ true = search (and-left, and-right) in
+    let classes : meetsClasses many I ≡ true = search (and-left, and-right) in
+    let roles : meetsRoles many I ≡ true = search (and-left, and-right) in
+    let rules′ : meetsRules few I ≡ true = rules-intro few I (λ r k x x<.
+    subst (λ (v : ℕ → ℕ → Bool). (flip (v (r .sub) x) || v (r .sup) x) ≡ true) same
+    (rules-elim many I rules r (keepRules-mono m n 0 (s .rules) (λ j j<. within-elim (length (s .rules)) m n w j (omega arith)) r k) x x<)) in
+    let classes′ : meetsClasses few I ≡ true = subst (λ (v : ℕ → ℕ → Bool). all (λ (c : ClassAssertion). v (c .class) (I .denotes (c .individual))) (s .classes) ≡ true) same classes in
+    subst (λ (v : ℕ → ℕ → Bool). v class (I .denotes port) ≡ true) (sym same)
+    (f I (and-both (meetsRules few I && meetsClasses few I) _ (and-both (meetsRules few I) _ rules′ classes′) roles))
+
+-- a set has a forcing proper subset exactly if leaving out one of its rules forces
+pub drop-one : (s : Sheet) (port class n : ℕ) → n < 2 ^ length (s .rules)
+    → NoSubsetForces s port class n ↔ ((i : ℕ) → i < length (s .rules) → bit n i ≡ true → Forces (withRules s (n - 2 ^ i)) port class → ⊥)
+drop-one s port class n n< = (there, back)
+  where
+    there : NoSubsetForces s port class n → (i : ℕ) → i < length (s .rules) → bit n i ≡ true → Forces (withRules s (n - 2 ^ i)) port class → ⊥
+    there h i i< e =
+        h (n - 2 ^ i) (omega arith)
+        (within-intro (length (s .rules)) (n - 2 ^ i) n (λ j q. ⊎-elim (λ p. ap (bit n) (sym p) ∙ e) (λ p. sym (bit-without-other n i j e p) ∙ q) (same? i j)))
+        (λ q. omega (arith, bit-le n i e, pow-pos i))
+
+    back : ((i : ℕ) → i < length (s .rules) → bit n i ≡ true → Forces (withRules s (n - 2 ^ i)) port class → ⊥) → NoSubsetForces s port class n
+    back h m m< w ne f =
+        ⊎-elim
+        (λ v. ne (within-both (length (s .rules)) m n m< n< w v))
+        (λ v.
+        let (i, i-in, q) = all-fails (λ i. flip (bit n i) || bit m i) (upTo (length (s .rules))) v in
+        let e : bit n i ≡ true = not-of-false (bit n i) (or-false-left (flip (bit n i)) (bit m i) q) in
+        let no : bit m i ≡ false = or-false-right (flip (bit n i)) (bit m i) q in
+        h i (upTo-elim (length (s .rules)) i i-in) e
+        (forces-mono s port class m (n - 2 ^ i) (within-intro (length (s .rules)) m (n - 2 ^ i) (λ j j-in.
+        bit-without-other n i j e (λ p. clashing (bit m j) j-in (ap (bit m) (sym p) ∙ no)) ∙ within-elim (length (s .rules)) m n w j (bit-below m (length (s .rules)) j m< j-in) j-in)) f))
+        (cases (within (length (s .rules)) n m))

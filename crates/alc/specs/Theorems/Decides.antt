@@ -1,8 +1,8 @@
 -- Theorem C: which seeds are satisfiable, and that a sheet has a finite interpretation exactly where a joint label with satisfiable seeds is found.
 use Prim.Native.Nat.{ℕ, zero, suc, _<_, max, _+_}
-use mathlib.Core.Bool.{Bool, true, false, _&&_}
+use mathlib.Core.Bool.{true, false, _&&_}
 use mathlib.Core.Path.{_≡_, refl, sym, _∙_, subst}
-use mathlib.Core.Logic.{⊎-elim}
+use mathlib.Core.Logic.{_↔_, ⊎-elim}
 use mathlib.Core.List.{List, [], _∷_, map, List·Memᴰ·not-nil, List·Memᴰ·cases-cons, List·Memᴰ·eq-of-singleton, Memᴰ·map, Memᴰ·of-map, Memᴰ·cast, Memᴰ·append-left, Memᴰ·append-right, List·Memᴰ·append-cases}
 use lib.ListN.{length, length-set, length-replicate, replicate}
 use native.Mathlib.Omega.{arith}
@@ -14,7 +14,7 @@ use Rattle.alc.specs.Settle.{label, settle, Joint, markAt}
 use Rattle.alc.specs.Seeds.{bound, reach, Ask, among, seeds, seedSurvives, fine, asks, SeedSatisfiable, expansions, survivors, successors, includeAll}
 use Rattle.alc.specs.Judge.{entries, SatisfiableWith, start, Entry, EntriesTrue, enter, firstFine, settledJoints}
 use Rattle.alc.specs.Model.{chosen, modelSeeds, orBlank, elementOf}
-use Rattle.alc.specs.Theorems.Lists.{each-elim, all-elim, first-is, and-left, and-right, clashing, here, Found, and-both, all-intro, there, each-intro, missing, found, any-none}
+use Rattle.alc.specs.Theorems.Lists.{tests-same, each-elim, all-elim, first-is, and-left, and-right, clashing, here, Found, and-both, all-intro, there, each-intro, missing, found, any-none}
 use Rattle.alc.specs.Theorems.Sheet.{WellFormed}
 use Rattle.alc.specs.Theorems.Meaning.{roles-elim, classes-elim}
 use Rattle.alc.specs.Theorems.Label.{has-blank}
@@ -70,7 +70,7 @@ label-replicate (suc n) zero = refl
 label-replicate (suc n) (suc a) = label-replicate n a
 
 module _ (s : Sheet) (xs : List Entry) where
-  start-length : length (start s xs) ≡ max 1 (s .individuals)
+  pub start-length : length (start s xs) ≡ max 1 (s .individuals)
   unfolding start
   start-length = enter-extends (entries s xs) (replicate (max 1 (s .individuals)) blank) .size ∙ length-replicate (max 1 (s .individuals)) blank
 
@@ -89,7 +89,7 @@ pub seeds-known : (s : Sheet) (k q : Label) → clashes s k ≡ false → q ∈ 
 seeds-known s k q c h = let (a, a-in, e) = Memᴰ·of-map (λ (a : Ask). a .seed) (asks s k) h in Memᴰ·cast (sym e) (seed-in-universe s k c a a-in)
 
 module _ (s : Sheet) (wf : WellFormed s) where
-  -- ---- the test for seedSurvives seeds is right
+  -- ---- the test for satisfiable seeds is right
   pub seed-sound : (l : Label) → seedSurvives s l ≡ true → SeedSatisfiable s l
   unfolding seedSurvives
   seed-sound l e =
@@ -104,17 +104,18 @@ module _ (s : Sheet) (wf : WellFormed s) where
       let (g, cl) = reach-closed s (successors s) (successors-known s) (bound s) 0 (l ∷ []) g₀ (λ j j< j<C q i. absurd (omega arith)) (omega arith) in
       among-in l (survivors s C) (satisfiable-survives s wf C (closed-by-successors s C cl) l (grown-in s (l ∷ []) C g l here) sat)
 
-  -- for an engine that strikes out over one list for all seeds: what survives in any clashed list is what is seedSurvives
-  pub survives-is : (D : List Label) → Closed s D → (l : Label) → l ∈ D → l ∈ universe s → among l (survivors s D) ≡ seedSurvives s l
-  survives-is D cl l h u = go (among l (survivors s D)) refl (seedSurvives s l) refl
-    where
-      go : (a : Bool) → among l (survivors s D) ≡ a → (b : Bool) → seedSurvives s l ≡ b → a ≡ b
-      go true p true q = refl
-      go false p false q = refl
-      go true p false q = clashing (seedSurvives s l) (seed-complete l u (survivor-satisfiable s (survivors s D) (survivors-good s D) wf l (among-true l (survivors s D) p))) q
-      go false p true q = clashing (among l (survivors s D)) (among-in l (survivors s D) (satisfiable-survives s wf D cl l h (seed-sound l q))) p
+  -- a seed is left over exactly if it is satisfiable
+  pub seed-test : (l : Label) → l ∈ universe s → (seedSurvives s l ≡ true) ↔ SeedSatisfiable s l
+  seed-test l u = (seed-sound l, seed-complete l u)
 
-  -- the seeds of a label that is true somewhere are seedSurvives
+  -- for an engine that strikes out over one list for all seeds: what survives in any closed list is what is satisfiable
+  pub survives-is : (D : List Label) → Closed s D → (l : Label) → l ∈ D → l ∈ universe s → among l (survivors s D) ≡ seedSurvives s l
+  survives-is D cl l h u =
+      tests-same (among l (survivors s D)) (seedSurvives s l)
+      (λ e. seed-complete l u (survivor-satisfiable s (survivors s D) (survivors-good s D) wf l (among-true l (survivors s D) e)))
+      (λ e. among-in l (survivors s D) (satisfiable-survives s wf D cl l h (seed-sound l e)))
+
+  -- the seeds of a label that is true somewhere are satisfiable
   true-fine : (I : Interpretation) → meetsRules s I ≡ true → (k : Label) (x : ℕ) → clashes s k ≡ false → TrueAt s I k x → fine s k ≡ true
   unfolding fine
   true-fine I mr k x c t = all-intro (seedSurvives s) (seeds s k) (λ q h.
@@ -126,7 +127,7 @@ module _ (s : Sheet) (wf : WellFormed s) where
   unfolding fine
   fine-elim k e = all-elim (seedSurvives s) (seeds s k) e
 
-  -- a seedSurvives seed has an expansion whose seeds are seedSurvives
+  -- a satisfiable seed has an expansion whose seeds are satisfiable
   pub chosen-is : (l : Label) → seedSurvives s l ≡ true → (chosen s l ∈ expansions s l) × (fine s (chosen s l) ≡ true)
   unfolding chosen
   chosen-is l e = go (first (fine s) (expansions s l)) (first-is (fine s) (expansions s l))
@@ -139,13 +140,14 @@ module _ (s : Sheet) (wf : WellFormed s) where
           clashing (fine s k) (true-fine (sat .interpretation) (sat .meets) k (sat .element) (quiet .clear) t) (n k k-in)
       go (just k) (found i f) = (i, f)
 
-  chosen-known : (l q : Label) → q ∈ seeds s (chosen s l) → q ∈ universe s
-  unfolding chosen
-  chosen-known l q h = go (first (fine s) (expansions s l)) (first-is (fine s) (expansions s l)) h
+  -- the seeds of the chosen expansion are among those of every expansion; a blank one, if none was fine, has none
+  pub chosen-next : (l q : Label) → q ∈ seeds s (chosen s l) → q ∈ successors s l
+  unfolding chosen successors
+  chosen-next l q h = go (first (fine s) (expansions s l)) (first-is (fine s) (expansions s l)) h
     where
-      go : (o : Maybe Label) → Found (fine s) (expansions s l) o → q ∈ seeds s (orBlank o) → q ∈ universe s
+      go : (o : Maybe Label) → Found (fine s) (expansions s l) o → q ∈ seeds s (orBlank o) → q ∈ each (seeds s) (expansions s l)
       go nothing f i = let (a, a-in, e) = Memᴰ·of-map (λ (a : Ask). a .seed) (asks s blank) i in absurd (blank-asks s a a-in)
-      go (just k) (found k-in t) i = let (quiet, more) = expand-finds s l k k-in in seeds-known s k q (quiet .clear) i
+      go (just k) (found k-in t) i = each-intro (seeds s) (expansions s l) k-in i
 
   -- ---- one half: the model that is written
   module _ (xs : List Entry) (fit : EntriesFit s xs) (K : Joint) (K-in : K ∈ settledJoints s xs) (ok : all (fine s) K ≡ true) where
@@ -180,7 +182,7 @@ module _ (s : Sheet) (wf : WellFormed s) where
     B-grown =
         let (g, all-in) = includeAll-grown s [] (each (seeds s) K) (nothing-yet s) (λ q h.
         let (l, l-in, i) = each-elim (seeds s) K h in seeds-known s l q (any-none (clashes s) K (done .clear) l l-in) i) in
-        let (g₁, cl) = reach-closed s (λ l. seeds s (chosen s l)) chosen-known (bound s) 0 (includeAll [] (each (seeds s) K))
+        let (g₁, cl) = reach-closed s (λ l. seeds s (chosen s l)) (λ l q i. successors-known s l q (chosen-next l q i)) (bound s) 0 (includeAll [] (each (seeds s) K))
         (again s [] (includeAll [] (each (seeds s) K)) g) (λ j j< j<C q i. absurd (omega arith)) (omega arith) in
         (g₁, cl, all-in)
 
@@ -226,7 +228,7 @@ module _ (s : Sheet) (wf : WellFormed s) where
         let (a, b) = fit x h in
         written-entry x (Memᴰ·append-right (map (λ (c : ClassAssertion). record { individual = c .individual; mark = holds (c .class) }) (s .classes)) h) a b
 
-  first-in : (xs : List Entry) (K : Joint) → firstFine s xs ≡ just K → (K ∈ settledJoints s xs) × (all (fine s) K ≡ true)
+  pub first-in : (xs : List Entry) (K : Joint) → firstFine s xs ≡ just K → (K ∈ settledJoints s xs) × (all (fine s) K ≡ true)
   unfolding firstFine
   first-in xs K e = go (first (all (fine s)) (settledJoints s xs)) e (first-is (all (fine s)) (settledJoints s xs))
     where

@@ -9,7 +9,7 @@ use lib.Dec.{ltb, leb, eqb}
 use borrow.Author.Tests.{ltb-true, ltb-false, leb-true, le-leb, lt-ltb, le-ltb, eqb-true, eq-eqb}
 use native.Mathlib.Omega.{arith}
 use Rattle.alc.specs.Lists.{_∈_, any}
-use Rattle.alc.specs.Sheet.{or, RoleAssertion, Sheet}
+use Rattle.alc.specs.Sheet.{RoleAssertion, Sheet}
 use Rattle.alc.specs.Meaning.{meetsRules, Interpretation}
 use Rattle.alc.specs.Label.{TrueAt, Label, pushed, Mark, has, _⊆_}
 use Rattle.alc.specs.Settle.{label, Joint}

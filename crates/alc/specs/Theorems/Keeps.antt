@@ -70,7 +70,7 @@ same-value I v (some r i) d x e = absurd (false≢true e)
 same-value I v (only r i) d x e = absurd (false≢true e)
 
 module _ (s : Sheet) (wf : WellFormed s) (I : Interpretation) where
-  -- what a true markAt says of the value of its line
+  -- what a true mark says of the value of its line
   pub value-holds : (l : Label) (x i : ℕ) → i < count s → TrueAt s I l x → has l (holds i) ≡ true → value I (truth s I) (line s i) x ≡ true
   value-holds l x i b t e = sym (truth-law s wf I i x) ∙ t (holds i) b e
 
@@ -98,7 +98,7 @@ module _ (s : Sheet) (wf : WellFormed s) (I : Interpretation) where
       (same-value I (truth s I) (line s i) (line s j) x (and-right (has l (fails j)) _ q) ∙ value-fails l x j (upTo-elim (count s) j j-in) t (and-left (has l (fails j)) _ q)) in
       ⊎-elim (λ k. ⊎-elim (λ k. ⊎-elim no-bottom no-top (or-cases _ _ k)) no-both (or-cases _ _ k)) no-name (or-cases _ _ c)
 
-  -- what a true markAt demands is true
+  -- what a true mark demands is true
   holds-true : (c : Line) (x : ℕ) → value I (truth s I) c x ≡ true → demandTrue s I (whenHolds c) x ≡ true
   holds-true top x e = refl
   holds-true bottom x e = refl

@@ -1,10 +1,10 @@
--- Tests, and loops over lists that compute, with the laws that the rest uses.
+-- The laws of tests and of the small tools on lists.
 use Prim.Native.Nat.{ℕ, zero, suc, _+_, _≤_, _<_}
 use mathlib.Core.Bool.{Bool, true, false, not, _&&_, _||_, true≢false, false≢true, cond}
-use mathlib.Core.Path.{_≡_, refl, sym, _∙_, ap, subst}
-use mathlib.Core.Logic.{_⊎_, inl, inr, ⊎-elim}
-use mathlib.Core.List.{List, [], _∷_, _++_, List·Memᴰ·head, List·Memᴰ·tail, List·Memᴰ·not-nil, List·Memᴰ·cases-cons, List·Memᴰ·append-cases, List·Memᴰ·eq-of-singleton, Memᴰ·append-left, Memᴰ·append-right, append-assoc}
-use lib.ListN.{length}
+use mathlib.Core.Path.{_≡_, refl, sym, _∙_, ap, subst, ap₂}
+use mathlib.Core.Logic.{_↔_, _⊎_, inl, inr, ⊎-elim}
+use mathlib.Core.List.{List, [], _∷_, _++_, List·Memᴰ·head, List·Memᴰ·tail, List·Memᴰ·not-nil, List·Memᴰ·cases-cons, List·Memᴰ·append-cases, List·Memᴰ·eq-of-singleton, Memᴰ·append-left, Memᴰ·append-right, append-assoc, map}
+use lib.ListN.{length, getD}
 use lib.Dec.{eqb}
 use borrow.Author.Tests.{eqb-true, eqb-false}
 use native.Mathlib.Omega.{arith}
@@ -67,10 +67,6 @@ pub and-false-cases : (a b : Bool) → (a && b) ≡ false → (a ≡ false) ⊎ 
 and-false-cases true b e = inr e
 and-false-cases false b e = inl refl
 
-pub not-of-true : (a : Bool) → not a ≡ true → a ≡ false
-not-of-true true e = sym e
-not-of-true false e = refl
-
 pub not-of-false : (a : Bool) → not a ≡ false → a ≡ true
 not-of-false true e = refl
 not-of-false false e = sym e
@@ -96,9 +92,18 @@ pub not-and-left : (a b : Bool) → (a && b) ≡ false → a ≡ true → not b 
 not-and-left true b e q = ap not e
 not-and-left false b e q = absurd (false≢true q)
 
+pub tests-same : (a b : Bool) → (a ≡ true → b ≡ true) → (b ≡ true → a ≡ true) → a ≡ b
+tests-same true b h g = sym (h refl)
+tests-same false true h g = g refl
+tests-same false false h g = refl
+
 pub implies : (a b : Bool) → (not a || b) ≡ true → a ≡ true → b ≡ true
 implies true b e q = e
 implies false b e q = absurd (false≢true q)
+
+pub implied : (a b : Bool) → (a ≡ true → b ≡ true) → (not a || b) ≡ true
+implied true b h = h refl
+implied false b h = refl
 
 module _ {A : Type 0} where
   pub here : {x : A} {xs : List A} → x ∈ (x ∷ xs)
@@ -153,6 +158,20 @@ module _ {A : Type 0} where
   pub all-false : (p : A → Bool) {x : A} (l : List A) → x ∈ l → p x ≡ false → all p l ≡ false
   all-false p {x} l h e = ⊎-elim (λ t. clashing (p x) (all-elim p l t x h) e) (λ t. t) (cases (all p l))
 
+  -- tests that agree on a list's members
+  pub any-cong : (p q : A → Bool) (l : List A) → ((x : A) → x ∈ l → p x ≡ q x) → any p l ≡ any q l
+  any-cong p q [] h = refl
+  any-cong p q (x ∷ xs) h = ap₂ _||_ (h x here) (any-cong p q xs (λ y m. h y (there m)))
+
+  pub all-cong : (p q : A → Bool) (l : List A) → ((x : A) → x ∈ l → p x ≡ q x) → all p l ≡ all q l
+  all-cong p q [] h = refl
+  all-cong p q (x ∷ xs) h = ap₂ _&&_ (h x here) (all-cong p q xs (λ y m. h y (there m)))
+
+  pub getD-in : (l : List A) (i : ℕ) (d : A) → i < length l → getD l i d ∈ l
+  getD-in [] i d h = absurd (omega arith)
+  getD-in (x ∷ xs) zero d h = here
+  getD-in (x ∷ xs) (suc i) d h = there (getD-in xs i d (omega arith))
+
   -- what `first` finds: the cases, for a proof
   pub data Found (p : A → Bool) (l : List A) : Maybe A → Type 0 where
     found : {x : A} → x ∈ l → p x ≡ true → Found p l (just x)
@@ -168,22 +187,43 @@ module _ {A : Type 0} where
       step false e nothing (missing h) = missing (λ x m. ⊎-elim (λ q. ap p q ∙ e) (h x) (List·Memᴰ·cases-cons m))
 
 module _ {A : Type 0} where
-  pub upToFirst-in : (p : A → Bool) (l : List A) (x : A) → x ∈ upToFirst p l → x ∈ l
-  upToFirst-in p [] x h = absurd (List·Memᴰ·not-nil h)
-  upToFirst-in p (y ∷ ys) x h = go (p y) (upToFirst p ys) (upToFirst-in p ys x) h
+  -- x stands in l, and none that stands before it passes
+  abbrev pub NoneBefore : (A → Bool) → List A → A → Type 0
+  NoneBefore p l x = (ys : List A) × (zs : List A) × (l ≡ ys ++ (x ∷ zs)) × ((y : A) → y ∈ ys → p y ≡ false)
+
+  upToFirst-elim : (p : A → Bool) (l : List A) (x : A) → x ∈ upToFirst p l → NoneBefore p l x
+  upToFirst-elim p [] x h = absurd (List·Memᴰ·not-nil h)
+  upToFirst-elim p (y ∷ l) x h = go (p y) refl (upToFirst p l) (upToFirst-elim p l x) h
     where
-      go : (b : Bool) (r : List A) → (x ∈ r → x ∈ ys) → x ∈ (y ∷ elim b [ true ↦ [] | false ↦ r ]) → x ∈ (y ∷ ys)
-      go true r k h = ⊎-elim (λ q. List·Memᴰ·head q) (λ m. absurd (List·Memᴰ·not-nil m)) (List·Memᴰ·cases-cons h)
-      go false r k h = ⊎-elim (λ q. List·Memᴰ·head q) (λ m. there (k m)) (List·Memᴰ·cases-cons h)
+      now : x ≡ y → NoneBefore p (y ∷ l) x
+      now q = ([], l, ap (λ (z : A). z ∷ l) (sym q), λ z i. absurd (List·Memᴰ·not-nil i))
 
--- for loops that follow the list: what is passed over changes nothing
-module _ {A : Type 0} where
-  pub first-skip : (p : A → Bool) (xs ys : List A) → ((x : A) → x ∈ xs → p x ≡ false) → first p (xs ++ ys) ≡ first p ys
-  first-skip p [] ys h = refl
-  first-skip p (x ∷ xs) ys h = rw (h x here) (first-skip p xs ys (λ y i. h y (there i)))
+      go : (b : Bool) → p y ≡ b → (r : List A) → (x ∈ r → NoneBefore p l x) → x ∈ (y ∷ elim b [ true ↦ [] | false ↦ r ]) → NoneBefore p (y ∷ l) x
+      go true e r k h = ⊎-elim now (λ m. absurd (List·Memᴰ·not-nil m)) (List·Memᴰ·cases-cons h)
+      go false e r k h =
+          ⊎-elim now
+          (λ m. let (ys, zs, q, none) = k m in (y ∷ ys, zs, ap (λ (t : List A). y ∷ t) q, λ z i. ⊎-elim (λ w. ap p w ∙ e) (none z) (List·Memᴰ·cases-cons i)))
+          (List·Memᴰ·cases-cons h)
 
-  pub first-here : (p : A → Bool) (x : A) (xs : List A) → p x ≡ true → first p (x ∷ xs) ≡ just x
-  first-here p x xs e = rw (e, first)
+  upToFirst-intro : (p : A → Bool) (ys zs : List A) (x : A) → ((y : A) → y ∈ ys → p y ≡ false) → x ∈ upToFirst p (ys ++ (x ∷ zs))
+  upToFirst-intro p [] zs x h = here
+  upToFirst-intro p (y ∷ ys) zs x h = rw (h y here) (there (upToFirst-intro p ys zs x (λ z i. h z (there i))))
+
+  pub upToFirst-is : (p : A → Bool) (l : List A) (x : A) → (x ∈ upToFirst p l) ↔ NoneBefore p l x
+  upToFirst-is p l x = (upToFirst-elim p l x, λ (ys, zs, e, none). rw e (upToFirst-intro p ys zs x none))
+
+  pub upToFirst-in : (p : A → Bool) (l : List A) (x : A) → x ∈ upToFirst p l → x ∈ l
+  upToFirst-in p l x h = let (ys, zs, e, none) = upToFirst-elim p l x h in rw e (Memᴰ·append-right ys here)
+
+  -- the first that passes is there
+  pub upToFirst-found : (p : A → Bool) (l : List A) (x : A) → first p l ≡ just x → x ∈ upToFirst p l
+  upToFirst-found p [] x e = absurd (let z : _≡_ {A = ℕ} 0 1 = cc in omega arith)
+  upToFirst-found p (y ∷ l) x e = go (p y) (upToFirst-found p l x) e
+    where
+      go : (b : Bool) → (first p l ≡ just x → x ∈ upToFirst p l) → elim b as (λ _. Maybe A) [ true ↦ just y | false ↦ first p l ] ≡ just x
+          → x ∈ (y ∷ elim b [ true ↦ [] | false ↦ upToFirst p l ])
+      go true k e = let q : x ≡ y = cc in List·Memᴰ·head q
+      go false k e = there (k e)
 
 module _ {A : Type 0} where
   pub filter-step : (p : A → Bool) (x : A) (xs : List A) → ((p x ≡ true) × (filter p (x ∷ xs) ≡ x ∷ filter p xs)) ⊎ ((p x ≡ false) × (filter p (x ∷ xs) ≡ filter p xs))
@@ -257,3 +297,13 @@ upTo-intro n i h = from-intro 0 n i (omega arith) (omega arith)
 
 pub upTo-elim : (n i : ℕ) → i ∈ upTo n → i < n
 upTo-elim n i m = let r = from-elim 0 n i m in omega arith
+
+pub length-from : (a k : ℕ) → length (from a k) ≡ k
+length-from a zero = refl
+length-from a (suc k) = ap suc (length-from (suc a) k)
+
+-- place i of f over a range
+pub map-from : {A : Type 0} (f : ℕ → A) (d : A) (a k i : ℕ) → i < k → getD (map f (from a k)) i d ≡ f (a + i)
+map-from f d a zero i h = absurd (omega arith)
+map-from f d a (suc k) zero h = ap f (omega arith)
+map-from f d a (suc k) (suc i) h = map-from f d (suc a) k i (omega arith) ∙ ap f (omega arith)

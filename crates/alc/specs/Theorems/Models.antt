@@ -10,7 +10,7 @@ use native.Mathlib.Omega.{arith}
 use Rattle.alc.specs.Lists.{_∈_, upTo}
 use Rattle.alc.specs.Sheet.{some, or, and, line, operandsBelow, count, Line, only, Rule, not, name, Sheet, top, bottom}
 use Rattle.alc.specs.Meaning.{meetsRules, value, truth, Interpretation}
-use Rattle.alc.specs.Label.{whenFails, every, whenHolds, clashes, pushed, Mark, fails, handed, lineOf, blank, isName, demand, sameName, _⊆_, markTrue, either, met, isTop, Label, holds, has, isBottom, clashesAt}
+use Rattle.alc.specs.Label.{whenFails, whenHolds, clashes, pushed, Mark, fails, handed, lineOf, blank, isName, demand, sameName, _⊆_, markTrue, either, met, isTop, Label, holds, has, isBottom, clashesAt}
 use Rattle.alc.specs.Seeds.{asksOf, seedOf, Ask, asks}
 use Rattle.alc.specs.Model.{named}
 use Rattle.alc.specs.Theorems.Lists.{cond-intro, all-false, any-intro, or-false-both, upTo-intro, and-left, and-right, clashing, here, upTo-elim, and-both, or-right, cases, all-intro, or-cases, each-intro, or-left, and-false-left, and-false-right, any-false}
@@ -18,7 +18,7 @@ use Rattle.alc.specs.Theorems.Sheet.{WellFormed}
 use Rattle.alc.specs.Theorems.Meaning.{truth-law, operands, rules-intro}
 use Rattle.alc.specs.Theorems.Moves.{addAll-has}
 
--- a settled label: no clash, and nothing is unsetIn to add
+-- a settled label: no clash, and nothing is left to add
 pub record Quiet (s : Sheet) (l : Label) : Type 0 where
   pub clear : clashes s l ≡ false
   pub marks : (m : Mark) → lineOf m < count s → has l m ≡ true → met l (demand s m) ≡ true
@@ -168,7 +168,7 @@ module _ (s : Sheet) (lab : ℕ → Label) (edge : ℕ → ℕ → ℕ → Bool)
           let (y, y<, ey, t) = witness r (fails j) (ltb-true j i b) (asks-in _ (rw q (cond-intro (has (lab x) (fails i)) e))) in
           all-false (λ y. flip (edge r x y) || truth s model j y) (upTo size) (upTo-intro size y y<) (or-false-both (flip (edge r x y)) _ (ap flip ey) (not-true _ t))
 
-    -- Theorem B: every markAt of every label is true
+    -- Theorem B: every mark of every label is true
     truth-below : (n : ℕ) → n ≤ count s → True n
     unfolding True
     truth-below zero h x x< m b e = absurd (omega arith)

@@ -1,5 +1,5 @@
--- Laws of joint labels and of the list of moves, for the proofs.
-use Prim.Native.Nat.{ℕ, zero, suc, _<_}
+-- The laws of adding marks, of joint labels, and of what is in the list of moves.
+use Prim.Native.Nat.{ℕ, suc, _<_}
 use mathlib.Core.Bool.{true, false}
 use mathlib.Core.Path.{_≡_, sym, subst}
 use mathlib.Core.Logic.{_⊎_, inl, inr, ⊎-elim}
@@ -13,7 +13,7 @@ use Rattle.alc.specs.Lists.{_∈_, upTo, each}
 use Rattle.alc.specs.Sheet.{count, RoleAssertion, Sheet}
 use Rattle.alc.specs.Label.{addAll, lineOf, add, blank, Label, holds, Mark, has, fails}
 use Rattle.alc.specs.Settle.{moves, Move, push, label, movesOf, own, Joint, markAt, rule}
-use Rattle.alc.specs.Theorems.Lists.{cases, each-elim, same?, here, there, each-intro, upTo-intro, upTo-elim}
+use Rattle.alc.specs.Theorems.Lists.{cases, each-elim, same?, here, there, getD-in, each-intro, upTo-intro, upTo-elim}
 use Rattle.alc.specs.Theorems.Label.{has-add, has-add-cases, has-add-keeps}
 
 -- ---- adding several marks
@@ -41,9 +41,7 @@ label-of (k ∷ J) l h =
     (List·Memᴰ·cases-cons h)
 
 pub label-in : (J : Joint) (a : ℕ) → a < length J → label J a ∈ J
-label-in [] a h = absurd (omega arith)
-label-in (l ∷ J) zero h = here
-label-in (l ∷ J) (suc a) h = there (label-in J a (omega arith))
+label-in J a h = getD-in J a blank h
 
 pub label-mark : (J : Joint) (a : ℕ) (ms : List Mark) → a < length J → label (markAt J a ms) a ≡ addAll (label J a) ms
 label-mark J a ms h = getD-set-same J a (addAll (label J a) ms) blank h

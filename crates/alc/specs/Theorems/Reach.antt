@@ -4,11 +4,11 @@ use mathlib.Core.Bool.{true, false}
 use mathlib.Core.Path.{_≡_, refl, sym, _∙_, ap, subst}
 use mathlib.Core.Logic.{_⊎_, inl, inr, ⊎-elim}
 use mathlib.Core.List.{List, [], _∷_, _++_, append-nil, append-assoc, Memᴰ·append-left, Memᴰ·append-right, List·Memᴰ·append-cases, List·Memᴰ·eq-of-singleton, List·Memᴰ·cases-cons, List·Memᴰ·not-nil, Memᴰ·of-map, Memᴰ·cast}
-use lib.ListN.{length, length-append, List·getD-append}
+use lib.ListN.{length, List·getD-append}
 use lib.Dec.{ltb}
 use borrow.Author.Tests.{ltb-true, ltb-false}
 use native.Mathlib.Omega.{arith}
-use Rattle.alc.specs.Lists.{_∈_, Distinct, each}
+use Rattle.alc.specs.Lists.{_∈_, Distinct}
 use Rattle.alc.specs.Sheet.{Sheet}
 use Rattle.alc.specs.Label.{blank, Label}
 use Rattle.alc.specs.Settle.{label}
@@ -71,9 +71,6 @@ grown-in s C D g l h = rw (g .is) (Memᴰ·append-left (g .rest) h)
 
 pub grown-at : (s : Sheet) (C D : List Label) → Grown s C D → (i : ℕ) → i < length C → label D i ≡ label C i
 grown-at s C D g i h = rw (g .is) (List·getD-append C (g .rest) blank i h)
-
-pub grown-length : (s : Sheet) (C D : List Label) → Grown s C D → length C ≤ length D
-grown-length s C D g = omega (arith, ap length (g .is) ∙ length-append C (g .rest))
 
 pub grown-bound : (s : Sheet) (C D : List Label) → Grown s C D → length D ≤ bound s
 grown-bound s C D g = omega (arith, pigeon D (universe s) (g .distinct) (g .known), length-universe s)

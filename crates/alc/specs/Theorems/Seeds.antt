@@ -1,5 +1,4 @@
--- What a settled label asks for: seeds.
--- Who asks for a seed, and what a seed has.
+-- Who asks for a seed, and what a seed has; labels that are the same.
 use Prim.Native.Nat.{ℕ, _<_}
 use mathlib.Core.Bool.{true}
 use mathlib.Core.Path.{_≡_, refl, sym, subst}
@@ -10,13 +9,11 @@ use mathlib.Core.Logic.{_⊎_, ⊎-elim}
 use Rattle.alc.specs.Lists.{_∈_, upTo}
 use Rattle.alc.specs.Sheet.{some, count, top, Line, or, not, bottom, only, and, name, line, Sheet}
 use Rattle.alc.specs.Label.{blank, Label, has, holds, pushed, Mark, fails}
-use Rattle.alc.specs.Settle.{label}
 use Rattle.alc.specs.Seeds.{seeds, same, asksOf, asks, seedOf, Ask, among}
-use Rattle.alc.specs.Theorems.Lists.{and-both, and-right, cond-elim, clashing, each-elim, here, there, any-elim, any-intro, and-left, upTo-elim}
+use Rattle.alc.specs.Theorems.Lists.{and-both, and-right, cond-elim, clashing, each-elim, there, any-elim, any-intro, and-left, upTo-elim}
 use Rattle.alc.specs.Theorems.Label.{has-blank}
 use Rattle.alc.specs.Theorems.Moves.{addAll-has, addAll-cases}
 
--- ---- laws
 pub same-true : (l k : Label) → same l k ≡ true → l ≡ k
 same-true l k e =
     let p : l .holding ≡ k .holding = eqb-true _ _ (and-left (eqb (l .holding) (k .holding)) (eqb (l .failing) (k .failing)) e) in
@@ -76,10 +73,6 @@ seed-cases s l r n m e =
     (λ k. mathlib.Core.List.List·Memᴰ·cases-cons k)
     (λ k. clashing (has blank m) k (has-blank m))
     (addAll-cases blank (n ∷ pushed s r l) m e)
-
-pub seed-asked : (s : Sheet) (l : Label) (r : ℕ) (n : Mark) → has (seedOf s l r n) n ≡ true
-unfolding seedOf
-seed-asked s l r n = addAll-has blank (n ∷ pushed s r l) n here
 
 pub seed-pushed : (s : Sheet) (l : Label) (q : Ask) → q ∈ asks s l → (m : Mark) → m ∈ pushed s (q .role) l → has (q .seed) m ≡ true
 unfolding seedOf

@@ -9,10 +9,10 @@ use lib.Seq.{set-out}
 use lib.Dec.{ltb}
 use borrow.Author.Tests.{ltb-true, ltb-false, not-true}
 use native.Mathlib.Omega.{arith}
-use Rattle.alc.specs.Lists.{_∈_, all, upTo}
+use Rattle.alc.specs.Lists.{_∈_, upTo}
 use Rattle.alc.specs.Sheet.{RoleAssertion, line, Sheet, count}
 use Rattle.alc.specs.Label.{Demand, every, either, met, holds, pushed, Mark, has, fails, addAll, handed, demand, _⊆_}
-use Rattle.alc.specs.Settle.{follow, Move, meet, push, who, settled, own, rule, adds, label, settle, next, settleWithin, Joint, wanted, markAt}
+use Rattle.alc.specs.Settle.{follow, Move, meet, push, who, own, rule, adds, label, settle, next, settleWithin, Joint, wanted, markAt}
 use Rattle.alc.specs.Theorems.Lists.{cases, each-elim, all-fails, same?, here, or-false-right, or-false-left, upTo-elim}
 use Rattle.alc.specs.Theorems.Sheet.{WellFormed}
 use Rattle.alc.specs.Theorems.Meaning.{operands}
@@ -91,6 +91,14 @@ module _ (s : Sheet) (wf : WellFormed s) (es : List RoleAssertion) where
         next-same (settleWithin s es (2 * count s * length J)) (settle s es) J len
         (λ K l less. within-same (2 * count s * length J) (suc (2 * count s * length K)) K l
         (omega (arith, unsetAll-bound (count s) J)) (omega (arith, unsetAll-bound (count s) K)))
+
+    -- and nothing else settles so
+    pub settle-unique : (F : Joint → List Joint) → ((J : Joint) → length J ≡ k → F J ≡ follow F J (next s es J)) → (J : Joint) → length J ≡ k → F J ≡ settle s es J
+    settle-unique F law J len = below (suc (unsetAll (count s) J)) J len (omega arith)
+      where
+        below : (n : ℕ) (J : Joint) → length J ≡ k → unsetAll (count s) J < n → F J ≡ settle s es J
+        below zero J len h = absurd (omega arith)
+        below (suc n) J len h = law J len ∙ next-same F (settle s es) J len (λ K l less. below n K l (omega arith)) ∙ sym (settle-law J len)
 
 -- ---- what is found is settled, and has the marks that it started with
 -- K has as many labels as J, and all marks of J

@@ -1,11 +1,11 @@
--- What a sheet says, once it is read: lines, rules, individuals, assertions.
+-- What a well-formed sheet within the limits gives, entry by entry.
 use Prim.Native.Nat.{ℕ, _<_}
 use mathlib.Core.Bool.{true, _&&_}
 use mathlib.Core.Path.{_≡_}
 use lib.Dec.{ltb}
 use borrow.Author.Tests.{ltb-true}
-use Rattle.alc.specs.Lists.{_∈_, upTo}
-use Rattle.alc.specs.Sheet.{count, wellFormed, linesWell, line, classesWell, ClassAssertion, rulesWell, Rule, operandsBelow, Sheet, rolesWell, RoleAssertion}
+use Rattle.alc.specs.Lists.{_∈_, all, upTo}
+use Rattle.alc.specs.Sheet.{count, wellFormed, linesWell, line, classesWell, ClassAssertion, rulesWell, Rule, operandsBelow, Sheet, rolesWell, RoleAssertion, Line, lineInLimits, inLimits, roleCount}
 use Rattle.alc.specs.Theorems.Lists.{and-right, upTo-intro, all-elim, and-left}
 
 -- what follows from it, for use in proofs
@@ -31,3 +31,15 @@ well-formed s e =
       classes = λ r m. two-below _ _ _ _ (all-elim _ (s .classes) c r m);
       roles = λ r m. two-below _ _ _ _ (all-elim _ (s .roles) d r m);
     }
+
+-- the limits that bear on what is true: names and roles
+module _ (s : Sheet) (e : inLimits s ≡ true) where
+  pub lines-limited : (c : Line) → c ∈ s .lines → lineInLimits c ≡ true
+  unfolding inLimits
+  lines-limited = let a : all lineInLimits (s .lines) ≡ true = search (and-left, and-right) in all-elim lineInLimits (s .lines) a
+
+  pub roles-limited : (d : RoleAssertion) → d ∈ s .roles → d .role < roleCount
+  unfolding inLimits
+  roles-limited d m =
+      let a : all (λ (d : RoleAssertion). ltb (d .role) roleCount) (s .roles) ≡ true = search (and-left, and-right) in
+      ltb-true (d .role) roleCount (all-elim (λ (d : RoleAssertion). ltb (d .role) roleCount) (s .roles) a d m)

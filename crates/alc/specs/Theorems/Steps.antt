@@ -10,9 +10,9 @@ use borrow.Author.Tests.{ltb-true}
 use native.Mathlib.Omega.{arith}
 use Rattle.alc.specs.Lists.{nothing, Maybe, just, _∈_, first}
 use Rattle.alc.specs.Sheet.{some, or, RoleAssertion, and, operandsBelow, Line, only, not, name, Sheet, top, bottom}
-use Rattle.alc.specs.Label.{whenFails, every, add, whenHolds, Mark, fails, handed, lineOf, demand, _⊆_, Demand, either, Label, holds, has, addAll}
-use Rattle.alc.specs.Settle.{who, settled, moves, label, next, step, Move, meet, adds, clashed, closes, Joint, wanted, markAt}
-use Rattle.alc.specs.Theorems.Lists.{first-is, and-left, and-right, same?, Found, cases, cond-elim, missing, found}
+use Rattle.alc.specs.Label.{whenFails, every, whenHolds, Mark, fails, handed, lineOf, _⊆_, Demand, either, Label, holds, has, addAll}
+use Rattle.alc.specs.Settle.{who, settled, moves, label, next, Move, meet, adds, clashed, closes, Joint, wanted, markAt}
+use Rattle.alc.specs.Theorems.Lists.{first-is, and-left, and-right, same?, Found, cond-elim, missing, found}
 use Rattle.alc.specs.Theorems.Moves.{moves-elim, addAll-has, Listed, addAll-keeps, moves-intro}
 
 -- ---- the number of marks still unset, of lines below n
@@ -85,7 +85,7 @@ unsetAll-set n [] a k h = absurd (omega arith)
 unsetAll-set n (l ∷ J) zero k h = omega arith
 unsetAll-set n (l ∷ J) (suc a) k h = omega (arith, unsetAll-set n J a k (omega arith))
 
--- marks that are new lessen what is unsetIn
+-- marks that are new lessen what is left
 pub mark-less : (n : ℕ) (J : Joint) (a : ℕ) (ms : List Mark) (m : Mark) → a < length J → m ∈ ms → lineOf m < n → has (label J a) m ≡ false → unsetAll n (markAt J a ms) < unsetAll n J
 mark-less n J a ms m h i b e =
     omega (

@@ -1,4 +1,4 @@
--- Which seeds are satisfiable: strike out the seeds none of whose expansions has all its seeds left, until nothing more is struck out.
+-- What survives the striking out is satisfiable, and what is satisfiable survives.
 use Prim.Native.Nat.{ℕ, zero, suc, _≤_, _<_}
 use mathlib.Core.Bool.{true}
 use mathlib.Core.Path.{_≡_, refl, sym, subst}
@@ -6,9 +6,9 @@ use mathlib.Core.Logic.{⊎-elim}
 use mathlib.Core.List.{List, [], _∷_, List·Memᴰ·not-nil, Memᴰ·of-map}
 use lib.ListN.{length}
 use native.Mathlib.Omega.{arith}
-use Rattle.alc.specs.Lists.{all, _∈_, nothing, Maybe, just, filter, first}
+use Rattle.alc.specs.Lists.{_∈_, nothing, Maybe, just, filter, first}
 use Rattle.alc.specs.Sheet.{RoleAssertion, Sheet}
-use Rattle.alc.specs.Label.{Label, has, _⊆_}
+use Rattle.alc.specs.Label.{Label, _⊆_}
 use Rattle.alc.specs.Settle.{label, settle, Joint}
 use Rattle.alc.specs.Seeds.{good, served, seeds, asks, survivors, strikes, Ask, SeedSatisfiable, strike, expansions, among}
 use Rattle.alc.specs.Model.{orBlank}
@@ -41,17 +41,9 @@ strikes-stable s (suc n) A h =
     (λ l. strikes-stable s n (strike s A) (omega arith))
     (filter-same (good s A) A)
 
-strikes-subset : (s : Sheet) (n : ℕ) (A : List Label) (l : Label) → l ∈ strikes s n A → l ∈ A
-strikes-subset s zero A l h = h
-strikes-subset s (suc n) A l h = (filter-elim (good s A) A (strikes-subset s n (strike s A) l h)) .0
-
 pub survivors-stable : (s : Sheet) (C : List Label) → strike s (survivors s C) ≡ survivors s C
 unfolding survivors
 survivors-stable s C = strikes-stable s (length C) C (omega arith)
-
-pub survivors-subset : (s : Sheet) (C : List Label) (l : Label) → l ∈ survivors s C → l ∈ C
-unfolding survivors
-survivors-subset s C l h = strikes-subset s (length C) C l h
 
 no-fits : (K : Joint) (e : RoleAssertion) → e ∈ [] → (e .source < length K) × (e .target < length K)
 no-fits K e h = absurd (List·Memᴰ·not-nil h)
@@ -61,7 +53,7 @@ survivors-good s C l h =
     let i : l ∈ filter (good s (survivors s C)) (survivors s C) = subst (λ (B : List Label). l ∈ B) (sym (survivors-stable s C)) h in
     (filter-elim (good s (survivors s C)) (survivors s C) i) .1
 
--- ---- survivors are seedSurvives, in whatever order the others were struck out
+-- ---- survivors are satisfiable, in whatever order the others were struck out
 module _ (s : Sheet) (A : List Label) (all-good : (l : Label) → l ∈ A → good s A l ≡ true) where
   pub pick-is : (l : Label) → l ∈ A → (pick s A l ∈ expansions s l) × (served s A (pick s A l) ≡ true)
   unfolding pick
@@ -95,7 +87,7 @@ module _ (s : Sheet) (A : List Label) (all-good : (l : Label) → l ∈ A → go
         true-there = λ m b i. family-true s wf [] K here done (no-fits K) A (pick s A) (λ k i. (pick-is k i) .0) pick-closed start 0 here m b (more m i);
       }
 
--- ---- and what is seedSurvives survives
+-- ---- and what is satisfiable survives
 -- C has the seeds of every expansion of every seed in it
 abbrev pub Closed : Sheet → List Label → Type 0
 Closed s C = (l : Label) → l ∈ C → (k : Label) → k ∈ expansions s l → (q : Ask) → q ∈ asks s k → q .seed ∈ C
