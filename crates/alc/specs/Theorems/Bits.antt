@@ -13,11 +13,11 @@ use Rattle.alc.specs.Bits.{bit, put}
 use mathlib.Core.Logic.{⊎-elim}
 use Rattle.alc.specs.Theorems.Lists.{cases, tests-same, or-left, or-right, or-cases}
 
-bit-suc : (s i : ℕ) → bit s (suc i) ≡ bit (s / 2) i
+pub bit-suc : (s i : ℕ) → bit s (suc i) ≡ bit (s / 2) i
 unfolding bit
 bit-suc s i = ap (λ (x : ℕ). eqb (x % 2) 1) (ap (λ (x : ℕ). s / x) (pow-succ' 2 i) ∙ sym (div-div-eq-div-mul s 2 (2 ^ i)))
 
-bit-zero : (s : ℕ) → bit s 0 ≡ eqb (s % 2) 1
+pub bit-zero : (s : ℕ) → bit s 0 ≡ eqb (s % 2) 1
 unfolding bit
 bit-zero s = ap (λ (x : ℕ). eqb (x % 2) 1) (div-one s)
 
@@ -122,6 +122,9 @@ without s (suc i) e =
     let (le, none) = without (s / 2) i (sym (bit-suc s i) ∙ e) in
     let half : (s - 2 ^ suc i) / 2 ≡ s / 2 - 2 ^ i = omega (arith, pow-succ' 2 i) in
     (omega (arith, pow-succ' 2 i), bit-suc (s - 2 ^ suc i) i ∙ rw half none)
+
+pub bit-without : (s i : ℕ) → bit s i ≡ true → bit (s - 2 ^ i) i ≡ false
+bit-without s i e = without s i e .1
 
 pub bit-le : (s i : ℕ) → bit s i ≡ true → 2 ^ i ≤ s
 bit-le s i e = without s i e .0
