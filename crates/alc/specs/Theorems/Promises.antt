@@ -387,5 +387,9 @@ module _ (bs : List ℕ) (room : ℕ) where
         room-cases;
   }
 
+  -- what equals the reply keeps the promise
+  pub balance-kept : {b : Balance} → b ≡ balanceReply bs room → BalancePromise bs room b
+  balance-kept e = subst (λ (x : Balance). BalancePromise bs room x) (sym e) balance-promise
+
   pub balance-unique : (b b′ : Balance) → BalancePromise bs room b → BalancePromise bs room b′ → b ≡ b′
   balance-unique b b′ p q = p .exact ∙ sym (q .exact)

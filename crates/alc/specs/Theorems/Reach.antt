@@ -26,7 +26,7 @@ abbrev pub ClosedBy : (Label → List Label) → List Label → Type 0
 ClosedBy after C = (l : Label) → l ∈ C → (q : Label) → q ∈ after l → q ∈ C
 
 -- ---- laws of `include`
-include-step : (C : List Label) (l : Label) → ((l ∈ C) × (include C l ≡ C)) ⊎ ((l ∈ C → ⊥) × (include C l ≡ C ++ (l ∷ [])))
+pub include-step : (C : List Label) (l : Label) → ((l ∈ C) × (include C l ≡ C)) ⊎ ((l ∈ C → ⊥) × (include C l ≡ C ++ (l ∷ [])))
 include-step C l =
     ⊎-elim
     (λ e. inl (among-true l C e, rw (e, include)))

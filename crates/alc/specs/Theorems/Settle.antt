@@ -40,7 +40,7 @@ meet-less n J a (either x y) h b e = (
 )
 
 module _ (s : Sheet) (wf : WellFormed s) (es : List RoleAssertion) where
-  wanted-below : (J : Joint) (k : ℕ) (m : Move) → Listed s es k m → DemandBelow (count s) (wanted s J m)
+  pub wanted-below : (J : Joint) (k : ℕ) (m : Move) → Listed s es k m → DemandBelow (count s) (wanted s J m)
   unfolding pushed
   wanted-below J k (own a (holds i)) h =
       if-has-below (count s) (has (label J a) (holds i)) (demand s (holds i)) (below-mono i (count s) (demand s (holds i)) (omega (arith, h .1)) (holds-below i (line s i) (operands s wf i)))

@@ -45,7 +45,7 @@ unset-in-le zero l k h = omega arith
 unset-in-le (suc n) l k h =
     omega (arith, unset-in-le n l k h, unset-le (has l (holds n)) (has k (holds n)) (h (holds n)), unset-le (has l (fails n)) (has k (fails n)) (h (fails n)))
 
-unset-in-lt : (n : ℕ) (l k : Label) (m : Mark) → l ⊆ k → lineOf m < n → has l m ≡ false → has k m ≡ true → unsetIn n k < unsetIn n l
+pub unset-in-lt : (n : ℕ) (l k : Label) (m : Mark) → l ⊆ k → lineOf m < n → has l m ≡ false → has k m ≡ true → unsetIn n k < unsetIn n l
 unfolding unsetIn
 unset-in-lt zero l k m h b p q = absurd (omega arith)
 unset-in-lt (suc n) l k (holds i) h b p q =

@@ -93,7 +93,7 @@ abbrev pub Closed : Sheet → List Label → Type 0
 Closed s C = (l : Label) → l ∈ C → (k : Label) → k ∈ expansions s l → (q : Ask) → q ∈ asks s k → q .seed ∈ C
 
 module _ (s : Sheet) (wf : WellFormed s) (C : List Label) (closed : Closed s C) where
-  strike-keeps : (A : List Label) → ((l : Label) → l ∈ C → SeedSatisfiable s l → l ∈ A) → (l : Label) → l ∈ C → SeedSatisfiable s l → l ∈ strike s A
+  pub strike-keeps : (A : List Label) → ((l : Label) → l ∈ C → SeedSatisfiable s l → l ∈ A) → (l : Label) → l ∈ C → SeedSatisfiable s l → l ∈ strike s A
   strike-keeps A h l i sat =
       let I = sat .interpretation in
       let (k, k-in, t) = expand-keeps s wf I (sat .meets) l (sat .element) (sat .inside) (sat .true-there) in

@@ -1,0 +1,133 @@
+-- What the code's values mean: a sheet as the code holds it and the sheet of alc's definitions, each from the other; and what its answers say of a reading.
+-- Definitions only.
+use Prim.Native.Nat.{ℕ, zero, suc, _-_}
+use mathlib.Core.List.{List, [], _++_, map}
+use lib.ListN.{length, getD, replicate}
+use Rattle.alc.specs.Lists.{upTo}
+use Rattle.alc.specs.Sheet.{Line, top, bottom, name, not, and, or, some, only, Rule, ClassAssertion, RoleAssertion, mostLines}
+use Rattle.alc.specs.Sheet as theory
+use Rattle.alc.specs.Bytes.{Read, refused, taken}
+use Rattle.sheet.specs.declared.Reason.{Reason}
+use Rattle.sheet.specs.declared.Reason.the-variants.{Cut, BadlyFormed, OverLimit, TooLarge, NotThere, LeftOver, LentBadly, OffSheet}
+use Rattle.sheet.specs.declared.Section.{Section}
+use Rattle.sheet.specs.declared.Sheet.{Sheet}
+use Rattle.sheet.specs.declared.number.Number.{Number}
+use Rattle.sheet.specs.declared.number.Number.the-variants.{Value, Refused as refusedNumber}
+use Rattle.sheet.specs.declared.sections.Entry.{Entry}
+use Rattle.sheet.specs.declared.sections.Entry.the-variants.{Numbers, Refused as refusedEntry}
+use Rattle.sheet.specs.declared.sections.Stop.{Stop}
+use Rattle.sheet.specs.declared.sections.Stop.the-variants.{Behind, Refused as refusedStop}
+
+-- document 01's numbers 1 to 8
+abbrev pub reasonNumber : Reason → ℕ
+reasonNumber Cut = 1
+reasonNumber BadlyFormed = 2
+reasonNumber OverLimit = 3
+reasonNumber TooLarge = 4
+reasonNumber NotThere = 5
+reasonNumber LeftOver = 6
+reasonNumber LentBadly = 7
+reasonNumber OffSheet = 8
+
+-- ---- entries and sections
+-- the numbers of an entry; those that it does not have are 0
+pub record Triple : Type 0 where
+  pub first : ℕ
+  pub second : ℕ
+  pub third : ℕ
+
+abbrev pub triple : ℕ → ℕ → ℕ → Triple
+triple a b c = record { first = a; second = b; third = c }
+
+-- zeros behind the entries
+unfoldable pub padded : List ℕ → List ℕ
+padded xs = xs ++ replicate (mostLines - length xs) 0
+
+unfoldable pub sectionForm : List Triple → Section
+sectionForm ts = record {
+  first = padded (map (λ (t : Triple). t .first) ts);
+  second = padded (map (λ (t : Triple). t .second) ts);
+  third = padded (map (λ (t : Triple). t .third) ts);
+  count = length ts;
+}
+
+unfoldable pub triples : Section → List Triple
+triples s = map (λ i. triple (getD (s .first) i 0) (getD (s .second) i 0) (getD (s .third) i 0)) (upTo (s .count))
+
+-- ---- a line, a rule, an assertion from its numbers, and the other way
+-- a kind of 7 or more is `only`, as in `operandsAt`
+abbrev pub lineFrom : ℕ → ℕ → ℕ → Line
+lineFrom zero a b = top
+lineFrom (suc zero) a b = bottom
+lineFrom (suc (suc zero)) a b = name a
+lineFrom (suc (suc (suc zero))) a b = not a
+lineFrom (suc (suc (suc (suc zero)))) a b = and a b
+lineFrom (suc (suc (suc (suc (suc zero))))) a b = or a b
+lineFrom (suc (suc (suc (suc (suc (suc zero)))))) a b = some a b
+lineFrom (suc (suc (suc (suc (suc (suc (suc k))))))) a b = only a b
+
+abbrev pub lineOf : Triple → Line
+lineOf t = lineFrom (t .first) (t .second) (t .third)
+
+abbrev pub lineTriple : Line → Triple
+lineTriple top = triple 0 0 0
+lineTriple bottom = triple 1 0 0
+lineTriple (name a) = triple 2 a 0
+lineTriple (not i) = triple 3 i 0
+lineTriple (and i j) = triple 4 i j
+lineTriple (or i j) = triple 5 i j
+lineTriple (some r i) = triple 6 r i
+lineTriple (only r i) = triple 7 r i
+
+abbrev pub ruleOf : Triple → Rule
+ruleOf t = record { sub = t .first; sup = t .second }
+
+abbrev pub ruleTriple : Rule → Triple
+ruleTriple r = triple (r .sub) (r .sup) 0
+
+abbrev pub classOf : Triple → ClassAssertion
+classOf t = record { individual = t .first; class = t .second }
+
+abbrev pub classTriple : ClassAssertion → Triple
+classTriple c = triple (c .individual) (c .class) 0
+
+abbrev pub roleOf : Triple → RoleAssertion
+roleOf t = record { role = t .first; source = t .second; target = t .third }
+
+abbrev pub roleTriple : RoleAssertion → Triple
+roleTriple e = triple (e .role) (e .source) (e .target)
+
+-- ---- the whole sheet
+unfoldable pub sheetOf : Sheet → theory.Sheet
+sheetOf s = record {
+  lines = map lineOf (triples (s .lines));
+  rules = map ruleOf (triples (s .rules));
+  individuals = s .individuals;
+  classes = map classOf (triples (s .classes));
+  roles = map roleOf (triples (s .roles));
+}
+
+unfoldable pub formOf : theory.Sheet → Sheet
+formOf s = record {
+  lines = sectionForm (map lineTriple (s .lines));
+  rules = sectionForm (map ruleTriple (s .rules));
+  individuals = s .individuals;
+  classes = sectionForm (map classTriple (s .classes));
+  roles = sectionForm (map roleTriple (s .roles));
+}
+
+abbrev pub emptySheet : theory.Sheet
+emptySheet = record { lines = []; rules = []; individuals = 0; classes = []; roles = [] }
+
+-- ---- what the answers say of a reading
+abbrev pub numberRead : Number → Read ℕ
+numberRead (Value v p) = taken v p
+numberRead (refusedNumber why p) = refused (reasonNumber why) p
+
+abbrev pub entryRead : Entry → Read Triple
+entryRead (Numbers a b c p) = taken (triple a b c) p
+entryRead (refusedEntry why p) = refused (reasonNumber why) p
+
+abbrev pub stopRead : {A : Type 0} → A → Stop → Read A
+stopRead a (Behind p) = taken a p
+stopRead a (refusedStop why p) = refused (reasonNumber why) p
