@@ -14,33 +14,32 @@ fn slot_of(s: &[u8]) -> usize {
         Outcome::Accepted => 0,
         Outcome::Refused(why, at) => {
             let number = sheet::reason_number(why);
-            if at < 4 {
-                return (number as usize) * 4 + at;
+            if number < 9 {
+                if at < 4 {
+                    return (number as usize) * 4 + at;
+                }
             }
             0
         }
     }
 }
 
-fn counted(times: [u64; SLOTS], s: &[u8]) -> [u64; SLOTS] {
-    let mut more = times;
+fn count(times: &mut [u64; SLOTS], s: &[u8]) {
     let slot = slot_of(s);
     if slot < SLOTS {
-        more[slot] = std::num::wrapping_add_u64(more[slot], 1);
+        times[slot] = std::num::wrapping_add_u64(times[slot], 1);
     }
-    more
 }
 
 // All strings of two bytes that begin with this one.
-fn pairs(times: [u64; SLOTS], first: u8) -> [u64; SLOTS] {
-    let mut more = times;
+fn count_pairs(times: &mut [u64; SLOTS], first: u8) {
+    let mut s = [first; 2];
     let mut b = 0u64;
     while b < 256 {
-        let s = [first, (b % 256) as u8];
-        more = counted(more, &s);
+        s[1] = (b % 256) as u8;
+        count(times, &s[..2]);
         b += 1;
     }
-    more
 }
 
 fn print_slot(slot: usize, times: u64) {
@@ -54,19 +53,29 @@ fn print_slot(slot: usize, times: u64) {
     }
 }
 
-fn main() {
-    let none = [0u8; 0];
-    let mut times = counted([0u64; SLOTS], &none);
-    let mut a = 0u64;
-    while a < 256 {
-        let one = [(a % 256) as u8];
-        times = counted(times, &one);
-        times = pairs(times, (a % 256) as u8);
-        a += 1;
-    }
+fn print_all(times: &[u64; SLOTS]) {
     let mut slot = 0;
     while slot < SLOTS {
         print_slot(slot, times[slot]);
         slot += 1;
     }
+}
+
+// The empty string, all of one byte, and all of two.
+fn count_all(times: &mut [u64; SLOTS]) {
+    let mut one = [0u8; 1];
+    count(times, &one[..0]);
+    let mut a = 0u64;
+    while a < 256 {
+        one[0] = (a % 256) as u8;
+        count(times, &one[..1]);
+        count_pairs(times, (a % 256) as u8);
+        a += 1;
+    }
+}
+
+fn main() {
+    let mut times = [0u64; SLOTS];
+    count_all(&mut times);
+    print_all(&times);
 }
