@@ -32,7 +32,7 @@ abbrev pub Less : ℕ → Joint → ℕ → Demand → Type 0
 Less n J a (every ms) = unsetAll n (markAt J a ms) < unsetAll n J
 Less n J a (either x y) = (unsetAll n (markAt J a (x ∷ [])) < unsetAll n J) × (unsetAll n (markAt J a (y ∷ [])) < unsetAll n J)
 
-meet-less : (n : ℕ) (J : Joint) (a : ℕ) (d : Demand) → a < length J → DemandBelow n d → met (label J a) d ≡ false → Less n J a d
+pub meet-less : (n : ℕ) (J : Joint) (a : ℕ) (d : Demand) → a < length J → DemandBelow n d → met (label J a) d ≡ false → Less n J a d
 meet-less n J a (every ms) h b e = let (m, i, q) = all-fails (has (label J a)) ms e in mark-less n J a ms m h i (b m i) q
 meet-less n J a (either x y) h b e = (
   mark-less n J a (x ∷ []) x h here (b .0) (or-false-left _ (has (label J a) y) e),
@@ -52,7 +52,7 @@ module _ (s : Sheet) (wf : WellFormed s) (es : List RoleAssertion) where
       let (i, i-in, g) = each-elim (λ i. handed (e .role) (has l (holds i)) (has l (fails i)) (line s i)) (upTo (count s)) q in
       omega (arith, upTo-elim (count s) i i-in, handed-below i (line s i) (operands s wf i) (e .role) (has l (holds i)) (has l (fails i)) m g)
 
-  who-below : (k : ℕ) → Fits es k → (m : Move) → Listed s es k m → who m < k
+  pub who-below : (k : ℕ) → Fits es k → (m : Move) → Listed s es k m → who m < k
   who-below k f (own a m) h = h .0
   who-below k f (rule a r) h = h .0
   who-below k f (push e) h = f e h

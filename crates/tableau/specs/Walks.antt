@@ -1,0 +1,25 @@
+-- What the walks over settled expansions find, as the code has it. Definitions only.
+use Prim.Native.Nat.{ℕ}
+use mathlib.Core.List.{List, [], _∷_, map}
+use lib.ListN.{getD}
+use lib.Dec.{eqb}
+use Rattle.alc.specs.Lists.{Maybe, nothing, just, filter, upTo}
+use Rattle.alc.specs.declared.Label.{Label}
+use Rattle.tableau.specs.declared.walks.Picked.{Picked}
+use Rattle.tableau.specs.declared.walks.Picked.the-variants.{Nothing as none, Found}
+use Rattle.tableau.specs.declared.seeds.Asked.{Asked}
+use Rattle.tableau.specs.declared.seeds.Asked.the-variants.{Nothing, Seed}
+use Rattle.tableau.specs.Records.{labelOf}
+
+-- of the first `used` records, those whose mark is 0: they are not struck out
+unfoldable pub standing : ℕ → List ℕ → List ℕ → List Label
+standing used recs marks = map (λ i. labelOf (getD recs i 0)) (filter (λ i. eqb (getD marks i 0) 0) (upTo used))
+
+-- the seed that a line asks for, if it does
+abbrev pub seedsAsked : Asked → List Label
+seedsAsked Nothing = []
+seedsAsked (Seed r l) = l ∷ []
+
+abbrev pub pickedOf : Maybe Label → Picked
+pickedOf nothing = none
+pickedOf (just k) = Found k
