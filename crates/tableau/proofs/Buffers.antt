@@ -95,7 +95,7 @@ recorded-set used buf w h = ap (map labelOf) (take-suc-set buf used w h) ∙ map
 
 -- a label is recorded exactly if its word is found
 module _ (buf : List ℕ) (used : ℕ) (fits : used ≤ length buf) (l : Label) where
-  found-label : l .holding < 4294967296 → foundAt buf used (wordOf l) < used → labelOf (getD buf (foundAt buf used (wordOf l)) 0) ≡ l
+  pub found-label : l .holding < 4294967296 → foundAt buf used (wordOf l) < used → labelOf (getD buf (foundAt buf used (wordOf l)) 0) ≡ l
   unfolding foundAt
   found-label h g = ap labelOf (place-has buf (wordOf l) 0 used (omega arith)) ∙ label-word l h
 
@@ -177,7 +177,7 @@ module _ (used : ℕ) (recs marks : List ℕ) where
       (i, upTo-elim used i b, z, e)
 
 -- in a list that has no label twice, a label has one place
-distinct-place : (C : List Label) → Distinct C → (i j : ℕ) → i < length C → j < length C → label C i ≡ label C j → i ≡ j
+pub distinct-place : (C : List Label) → Distinct C → (i j : ℕ) → i < length C → j < length C → label C i ≡ label C j → i ≡ j
 distinct-place [] d i j h g e = absurd (omega arith)
 distinct-place (l ∷ C) d zero zero h g e = refl
 distinct-place (l ∷ C) d zero (suc j) h g e = absurd (d .0 (Memᴰ·cast e (label-in C j (omega arith))))
@@ -243,10 +243,10 @@ module _ {p : List ℕ} (l : Label) (pre : Prepared p) (h< : l .holding < 2 ^ 32
   abbrev asking : ℕ
   asking = bitAnd (bitOr (l .holding) (l .failing)) (getD p 390 0)
 
-  asking-inside : Inside (count (planSheet p)) asking
+  pub asking-inside : Inside (count (planSheet p)) asking
   asking-inside = marked-inside (planSheet p) l h< f< isQuantified refl (getD p 390 0) (pre .asking)
 
-  seeds-asked : each (seedsAt (planSheet p) l) (members 32 asking) ≡ seeds (planSheet p) l
+  pub seeds-asked : each (seedsAt (planSheet p) l) (members 32 asking) ≡ seeds (planSheet p) l
   unfolding askedAt asks
   seeds-asked =
       let s = planSheet p in

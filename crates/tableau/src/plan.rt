@@ -55,7 +55,6 @@ pub const OR: u32 = 5;
 
 pub const SOME: u32 = 6;
 
-
 // One row of a section.
 fn lay_row(mut plan: [u32; SIZE], base: usize, row: [u16; ROW]) -> [u32; SIZE]
     requires { ⌜ base ≤ 352 ⌝ }
