@@ -1,9 +1,9 @@
 -- What a verdict on joint labels says, whatever joint labels were judged before. Definitions only.
 use Prim.Native.Nat.{ℕ, _≤_, _<_}
-use mathlib.Core.Bool.{Bool, true, false}
+use mathlib.Core.Bool.{true, false}
 use mathlib.Core.Path.{_≡_}
 use mathlib.Core.List.{List, [], _∷_, _++_}
-use lib.ListN.{length, getD, take}
+use lib.ListN.{length, getD}
 use Rattle.alc.specs.Lists.{_∈_, Distinct, Maybe, nothing, just, all, first, upToFirst}
 use Rattle.alc.specs.Sheet.{Sheet}
 use Rattle.alc.specs.declared.Label.{Label}

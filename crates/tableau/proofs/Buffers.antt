@@ -24,6 +24,8 @@ use Rattle.alc.specs.Theorems.Seeds.{among-in, among-true}
 use Rattle.alc.specs.Theorems.Reach.{include-step, includeAll-append}
 use Rattle.tableau.specs.declared.records.Grown.{Grown}
 use Rattle.tableau.specs.declared.records.Grown.the-variants.{Full, Used}
+use Rattle.tableau.specs.declared.seeds.Asked.{Asked}
+use Rattle.tableau.specs.declared.seeds.Asked.the-variants.{Nothing, Seed}
 use Rattle.tableau.specs.Records.{wordOf, labelOf, recorded, placeFrom, foundAt, GrownTo}
 use Rattle.tableau.specs.Plan.{planSheet, Prepared}
 use Rattle.tableau.specs.Asks.{askedOf, askedAt}
@@ -87,7 +89,7 @@ module _ (buf : List ℕ) (w : ℕ) where
 pub length-recorded : (used : ℕ) (buf : List ℕ) → used ≤ length buf → length (recorded used buf) ≡ used
 length-recorded used buf h = length-map (take used buf) labelOf ∙ length-take-le used buf h
 
-record-at : (used : ℕ) (buf : List ℕ) (j : ℕ) → j < used → label (recorded used buf) j ≡ labelOf (getD buf j 0)
+pub record-at : (used : ℕ) (buf : List ℕ) (j : ℕ) → j < used → label (recorded used buf) j ≡ labelOf (getD buf j 0)
 record-at used buf j h = List·getD-map labelOf (take used buf) j 0 ∙ ap labelOf (getD-take used buf j 0 h)
 
 recorded-set : (used : ℕ) (buf : List ℕ) (w : ℕ) → used < length buf → recorded (suc used) (set buf used w) ≡ recorded used buf ++ (labelOf w ∷ [])
@@ -208,20 +210,21 @@ seedsAt s l i = seedsAsked (askedAt s l i)
 abbrev seedIn : Ask → Label
 seedIn q = q .seed
 
-one-ask : (b : Bool) (q : Ask) → seedsAsked (askedOf (cond b (q ∷ []) [])) ≡ map seedIn (cond b (q ∷ []) [])
-one-ask true q = refl
-one-ask false q = refl
+-- a line asks for one seed at most: so f of what it asks for is g of it as the code has it
+module _ {B : Type 0} (f : Ask → B) (g : Asked → List B) (none : g Nothing ≡ []) (one : (q : Ask) → g (Seed (q .role) (q .seed)) ≡ f q ∷ []) where
+  one-ask : (b : Bool) (q : Ask) → g (askedOf (cond b (q ∷ []) [])) ≡ map f (cond b (q ∷ []) [])
+  one-ask true q = one q
+  one-ask false q = none
 
--- a line asks for one seed at most
-asks-once : (s : Sheet) (l : Label) (h f : Bool) (c : Line) → seedsAsked (askedOf (asksOf s l h f c)) ≡ map seedIn (asksOf s l h f c)
-asks-once s l h f top = refl
-asks-once s l h f bottom = refl
-asks-once s l h f (name a) = refl
-asks-once s l h f (not i) = refl
-asks-once s l h f (and i j) = refl
-asks-once s l h f (or i j) = refl
-asks-once s l h f (some r i) = one-ask h _
-asks-once s l h f (only r i) = one-ask f _
+  asks-once : (s : Sheet) (l : Label) (h m : Bool) (c : Line) → g (askedOf (asksOf s l h m c)) ≡ map f (asksOf s l h m c)
+  asks-once s l h m top = none
+  asks-once s l h m bottom = none
+  asks-once s l h m (name a) = none
+  asks-once s l h m (not i) = none
+  asks-once s l h m (and i j) = none
+  asks-once s l h m (or i j) = none
+  asks-once s l h m (some r i) = one-ask h _
+  asks-once s l h m (only r i) = one-ask m _
 
 -- and for none, unless it is a some or only line with a mark
 unasked : (s : Sheet) (l : Label) (h f : Bool) (c : Line) → ((h || f) && isQuantified c) ≡ false → asksOf s l h f c ≡ []
@@ -240,22 +243,27 @@ module _ {A B C : Type 0} where
   map-each f g (x ∷ xs) = map-append f (g x) (each g xs) ∙ ap (λ (r : List C). map f (g x) ++ r) (map-each f g xs)
 
 module _ {p : List ℕ} (l : Label) (pre : Prepared p) (h< : l .holding < 2 ^ 32) (f< : l .failing < 2 ^ 32) where
-  abbrev asking : ℕ
+  abbrev pub asking : ℕ
   asking = bitAnd (bitOr (l .holding) (l .failing)) (getD p 390 0)
 
   pub asking-inside : Inside (count (planSheet p)) asking
   asking-inside = marked-inside (planSheet p) l h< f< isQuantified refl (getD p 390 0) (pre .asking)
 
-  pub seeds-asked : each (seedsAt (planSheet p) l) (members 32 asking) ≡ seeds (planSheet p) l
+  -- what its some and only lines with a mark ask for is all that it asks for
+  pub asks-all : {B : Type 0} (f : Ask → B) (g : Asked → List B) → g Nothing ≡ [] → ((q : Ask) → g (Seed (q .role) (q .seed)) ≡ f q ∷ [])
+      → each (λ i. g (askedAt (planSheet p) l i)) (members 32 asking) ≡ map f (asks (planSheet p) l)
   unfolding askedAt asks
-  seeds-asked =
+  asks-all {B} f g none one =
       let s = planSheet p in
       let asksAt : ℕ → List Ask = λ i. asksOf s l (has l (holds i)) (has l (fails i)) (line s i) in
-      each-inside (seedsAt s l) (count s) asking (lines-fit pre) asking-inside
-      (λ i b e. ap (λ (qs : List Ask). seedsAsked (askedOf qs)) (unasked s l (has l (holds i)) (has l (fails i)) (line s i)
-      (sym (marked-bit s l h< f< isQuantified refl (getD p 390 0) (pre .asking) i) ∙ e)))
-      ∙ ap (λ (f : ℕ → List Label). each f (upTo (count s))) (fun-ext (λ i. asks-once s l (has l (holds i)) (has l (fails i)) (line s i)))
-      ∙ sym (map-each seedIn asksAt (upTo (count s)))
+      each-inside (λ i. g (askedAt s l i)) (count s) asking (lines-fit pre) asking-inside
+      (λ i b e. ap (λ (qs : List Ask). g (askedOf qs)) (unasked s l (has l (holds i)) (has l (fails i)) (line s i)
+      (sym (marked-bit s l h< f< isQuantified refl (getD p 390 0) (pre .asking) i) ∙ e)) ∙ none)
+      ∙ ap (λ (k : ℕ → List B). each k (upTo (count s))) (fun-ext (λ i. asks-once f g none one s l (has l (holds i)) (has l (fails i)) (line s i)))
+      ∙ sym (map-each f asksAt (upTo (count s)))
+
+  pub seeds-asked : each (seedsAt (planSheet p) l) (members 32 asking) ≡ seeds (planSheet p) l
+  seeds-asked = asks-all seedIn seedsAsked refl (λ q. refl)
 
 -- ---- the loop that includes them: what is left to include is the whole
 pub record Including (p : List ℕ) (l : Label) (start : ℕ) (before : List ℕ) (used : ℕ) (buf : List ℕ) (left : ℕ) : Type 0 where

@@ -147,8 +147,11 @@ module _ {k left : ℕ} (g : Inside k left) (h : 0 < left) where
   pub rest-less : rest-of left < left
   rest-less = omega (arith, word, pow-pos (lowest-of left))
 
+  pub rest-members : members 32 left ≡ lowest-of left ∷ members 32 (rest-of left)
+  rest-members = rw word (members-step 32 left h (g .small))
+
   pub rest-each : {B : Type 0} (f : ℕ → List B) → each f (members 32 left) ≡ f (lowest-of left) ++ each f (members 32 (rest-of left))
-  rest-each {B} f = rw word (ap {B = List B} (each f) (members-step 32 left h (g .small)))
+  rest-each {B} f = ap {B = List B} (each f) rest-members
 
   pub rest-inside : Inside k (rest-of left)
   rest-inside = rw word record {

@@ -3,7 +3,7 @@ use Prim.Native.Nat.{ℕ, zero, suc, _+_, _/_, _%_, _^_, _≤_, _<_, min}
 use mathlib.Core.Bool.{Bool, true, false, not as flip, _&&_, _||_, true≢false, cond}
 use mathlib.Core.Path.{_≡_, refl, sym, _∙_, ap}
 use mathlib.Core.Logic.{_⊎_, ⊎-elim}
-use mathlib.Core.List.{List, [], _∷_, map, map-map}
+use mathlib.Core.List.{List, [], _∷_, map, map-map, Memᴰ·map}
 use native.Mathlib.Nat.{pow-succ', zero-add}
 use native.Mathlib.Decide.{decLt}
 use native.Mathlib.Omega.{arith}
@@ -14,7 +14,7 @@ use lib.Count.{trailingZeros}
 use borrow.Author.Tests.{ltb-true, eqb-true, eqb-false, eq-eqb, ne-eqb, lt-ltb, le-ltb, not-true}
 use Rattle.alc.specs.Bits.{bit, put}
 use Rattle.alc.specs.Lists.{_∈_, nothing, just, any, all, first, upTo}
-use Rattle.alc.specs.Sheet.{Line, top, bottom, name, not, and, or, some, only, Rule, _⊑_, Sheet, count, line, operandsBelow, inLimits, mostLines, mostRules}
+use Rattle.alc.specs.Sheet.{Line, top, bottom, name, not, and, or, some, only, Rule, _⊑_, RoleAssertion, Sheet, count, line, operandsBelow, inLimits, mostLines, mostRules, mostRoles}
 use Rattle.alc.specs.declared.Label.{Label}
 use Rattle.alc.specs.declared.Mark.{Mark}
 use Rattle.alc.specs.Label.{blank, has, addAll, Demand, every, either, whenHolds, whenFails, met, clashesAt, clashes, sameName, isTop, isBottom}
@@ -23,10 +23,11 @@ use Rattle.alc.specs.Theorems.Bits.{bit-zero, bit-suc, bit-none, bit-put, bit-p
 use Rattle.alc.specs.Theorems.Lists.{cases, clashing, tests-same, and-left, and-right, and-both, and-false-left, and-false-right, or-left, or-right, or-false-both, any-intro, any-elim, upTo-intro, length-from, map-from, getD-in, same?}
 use Rattle.alc.specs.Theorems.Sheet.{well-formed}
 use Rattle.alc.specs.Theorems.Models.{no-both}
-use Rattle.sheet.specs.Form.{lineFrom, lineOf, ruleOf}
+use Rattle.sheet.specs.Form.{lineFrom, lineOf, ruleOf, roleOf}
 use Rattle.tableau.specs.declared.step.Choice.{Choice}
 use Rattle.tableau.specs.declared.step.Choice.the-variants.{Nothing, Every, Either}
 use Rattle.tableau.specs.Plan.{entryFrom, planSheet, isWorking, operandSet, Prepared}
+use Rattle.tableau.specs.Joints.{assertionAt}
 use Rattle.tableau.specs.Choice.{wantedBy, demandsAt, unmet, choiceOf}
 use Rattle.tableau.proofs.Members.{lowest}
 
@@ -92,11 +93,18 @@ module _ (p : List ℕ) where
   unfolding planSheet
   rules-are = map-map ruleOf (entryFrom p 96) (upTo (getD p 385 0))
 
+  pub roles-are : planSheet p .roles ≡ map (assertionAt p) (upTo (getD p 388 0))
+  unfolding planSheet
+  roles-are = map-map roleOf (entryFrom p 288) (upTo (getD p 388 0))
+
   pub line-count : count (planSheet p) ≡ getD p 384 0
   line-count = rw lines-are (length-map (upTo (getD p 384 0)) (lineAt p) ∙ length-from 0 (getD p 384 0))
 
   pub rule-count : length (planSheet p .rules) ≡ getD p 385 0
   rule-count = rw rules-are (length-map (upTo (getD p 385 0)) (ruleAt p) ∙ length-from 0 (getD p 385 0))
+
+  pub role-count : length (planSheet p .roles) ≡ getD p 388 0
+  role-count = rw roles-are (length-map (upTo (getD p 388 0)) (assertionAt p) ∙ length-from 0 (getD p 388 0))
 
   pub line-is : (i : ℕ) → i < count (planSheet p) → line (planSheet p) i ≡ lineAt p i
   line-is i b = rw lines-are (map-from (lineAt p) top 0 (getD p 384 0) i (omega (arith, line-count)) ∙ simp zero-add)
@@ -107,6 +115,12 @@ module _ (p : List ℕ) where
 
   pub rule-is : (r : ℕ) (d : Rule) → r < getD p 385 0 → getD (planSheet p .rules) r d ≡ ruleAt p r
   rule-is r d b = rw rules-are (map-from (ruleAt p) d 0 (getD p 385 0) r b ∙ simp zero-add)
+
+  pub role-is : (e : ℕ) (d : RoleAssertion) → e < getD p 388 0 → getD (planSheet p .roles) e d ≡ assertionAt p e
+  role-is e d b = rw roles-are (map-from (assertionAt p) d 0 (getD p 388 0) e b ∙ simp zero-add)
+
+  pub role-in : (e : ℕ) → e < getD p 388 0 → assertionAt p e ∈ planSheet p .roles
+  role-in e b = rw roles-are (Memᴰ·map (assertionAt p) (upTo-intro (getD p 388 0) e b))
 
 module _ {p : List ℕ} (h : Prepared p) where
   -- the limits
@@ -125,6 +139,14 @@ module _ {p : List ℕ} (h : Prepared p) where
       let l : inLimits s ≡ true = h .limited in
       let a : ltb (length (s .rules)) (suc mostRules) ≡ true = search (and-left, and-right) in
       omega (arith, ltb-true (length (s .rules)) (suc mostRules) a, rule-count p)
+
+  pub roles-fit : getD p 388 0 ≤ 16
+  unfolding inLimits
+  roles-fit =
+      let s = planSheet p in
+      let l : inLimits s ≡ true = h .limited in
+      let a : ltb (length (s .roles)) (suc mostRoles) ≡ true = search (and-left, and-right) in
+      omega (arith, ltb-true (length (s .roles)) (suc mostRoles) a, role-count p)
 
   -- both sides of a rule are lines
   pub rule-inside : (r : ℕ) → r < getD p 385 0 → (getD p (96 + r) 0 < 32) × (getD p (128 + r) 0 < 32)

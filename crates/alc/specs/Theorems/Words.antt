@@ -30,7 +30,7 @@ use Rattle.alc.specs.Theorems.Answers.{ten-found}
 
 -- ---- edges, as lists of three words: from, role, to
 -- by from, then role, then to
-abbrev Earlier : List ℕ → List ℕ → Type 0
+abbrev pub Earlier : List ℕ → List ℕ → Type 0
 Earlier e f = (getD e 0 0 < getD f 0 0) ⊎ ((getD e 0 0 ≡ getD f 0 0) × ((getD e 1 0 < getD f 1 0) ⊎ ((getD e 1 0 ≡ getD f 1 0) × (getD e 2 0 < getD f 2 0))))
 
 -- from and to are among n elements, and the role among those there are
@@ -40,7 +40,7 @@ Inside n e = (getD e 0 0 < n) × (getD e 1 0 < roleCount) × (getD e 2 0 < n)
 abbrev Threes : List (List ℕ) → Type 0
 Threes es = (e : List ℕ) → e ∈ es → length e ≡ 3
 
-earlier-once : (e f : List ℕ) → Earlier e f → Earlier f e → ⊥
+pub earlier-once : (e f : List ℕ) → Earlier e f → Earlier f e → ⊥
 earlier-once e f (inl a) (inl b) = omega arith
 earlier-once e f (inl a) (inr b) = omega arith
 earlier-once e f (inr a) (inl b) = omega arith
@@ -135,7 +135,7 @@ module _ (n : ℕ) (masks : List ℕ) (len : length masks ≡ n) (es : List (Lis
 
 -- ---- the mask of true names
 module _ (s : Sheet) (l : Label) where
-  mask-small : (n : ℕ) → nameMask s l n < 2 ^ n
+  pub mask-small : (n : ℕ) → nameMask s l n < 2 ^ n
   mask-small zero = omega arith
   mask-small (suc n) = go (named s l n) (mask-small n)
     where
@@ -143,7 +143,7 @@ module _ (s : Sheet) (l : Label) where
       go true h = omega (arith, pow-succ' 2 n)
       go false h = omega (arith, pow-succ' 2 n)
 
-  mask-bit : (n a : ℕ) → a < n → bit (nameMask s l n) a ≡ named s l a
+  pub mask-bit : (n a : ℕ) → a < n → bit (nameMask s l n) a ≡ named s l a
   mask-bit zero a h = absurd (omega arith)
   mask-bit (suc n) a h = go (named s l n) refl (mask-bit n a)
     where
@@ -164,10 +164,10 @@ module _ (s : Sheet) (l : Label) where
 -- ---- the edges of the model that is written
 module _ (n : ℕ) (edge : ℕ → ℕ → ℕ → Bool) where
   -- those from x along r, those from x, and all
-  abbrev along : ℕ → ℕ → List (List ℕ)
+  abbrev pub along : ℕ → ℕ → List (List ℕ)
   along x r = each (λ y. cond (edge r x y) ((x ∷ r ∷ y ∷ []) ∷ []) []) (upTo n)
 
-  abbrev leaving : ℕ → List (List ℕ)
+  abbrev pub leaving : ℕ → List (List ℕ)
   leaving x = each (along x) (upTo roleCount)
 
   abbrev everywhere : List (List ℕ)
@@ -179,7 +179,7 @@ module _ (n : ℕ) (edge : ℕ → ℕ → ℕ → Bool) where
       let (t, q) = cond-elim (edge r x y) i in
       (y, upTo-elim n y y-in, t, q)
 
-  leaving-elim : (x : ℕ) (e : List ℕ) → e ∈ leaving x → (r y : ℕ) × (r < roleCount) × (y < n) × (edge r x y ≡ true) × (e ≡ x ∷ r ∷ y ∷ [])
+  pub leaving-elim : (x : ℕ) (e : List ℕ) → e ∈ leaving x → (r y : ℕ) × (r < roleCount) × (y < n) × (edge r x y ≡ true) × (e ≡ x ∷ r ∷ y ∷ [])
   leaving-elim x e m =
       let (r, r-in, i) = each-elim (along x) (upTo roleCount) m in
       let (y, y<, t, q) = along-elim x r e i in
@@ -191,18 +191,23 @@ module _ (n : ℕ) (edge : ℕ → ℕ → ℕ → Bool) where
       let (r, y, r<, y<, t, q) = leaving-elim x e i in
       (x, r, y, upTo-elim n x x-in, r<, y<, t, q)
 
+  pub leaving-intro : (x r y : ℕ) → r < roleCount → y < n → edge r x y ≡ true → (x ∷ r ∷ y ∷ []) ∈ leaving x
+  leaving-intro x r y r< y< t =
+      each-intro (along x) (upTo roleCount) (upTo-intro roleCount r r<)
+      (each-intro (λ y. cond (edge r x y) ((x ∷ r ∷ y ∷ []) ∷ []) []) (upTo n) (upTo-intro n y y<) (cond-intro (edge r x y) t))
+
   everywhere-intro : (x r y : ℕ) → x < n → r < roleCount → y < n → edge r x y ≡ true → (x ∷ r ∷ y ∷ []) ∈ everywhere
-  everywhere-intro x r y x< r< y< t =
-      each-intro leaving (upTo n) (upTo-intro n x x<)
-      (each-intro (along x) (upTo roleCount) (upTo-intro roleCount r r<)
-      (each-intro (λ y. cond (edge r x y) ((x ∷ r ∷ y ∷ []) ∷ []) []) (upTo n) (upTo-intro n y y<) (cond-intro (edge r x y) t)))
+  everywhere-intro x r y x< r< y< t = each-intro leaving (upTo n) (upTo-intro n x x<) (leaving-intro x r y r< y< t)
+
+  pub leaving-sorted : (x : ℕ) → Sorted Earlier (leaving x)
+  leaving-sorted x = each-sorted Earlier (along x) 0 roleCount
+      (λ r _. each-sorted Earlier (λ y. cond (edge r x y) ((x ∷ r ∷ y ∷ []) ∷ []) []) 0 n (λ y _. cond-sorted Earlier (edge r x y) (x ∷ r ∷ y ∷ []))
+      (λ y z b _ e f i j. subst₂ Earlier (sym (cond-elim (edge r x y) i .1)) (sym (cond-elim (edge r x z) j .1)) (inr (refl, inr (refl, b)))))
+      (λ r q b _ e f i j. subst₂ Earlier (sym (along-elim x r e i .3)) (sym (along-elim x q f j .3)) (inr (refl, inl b)))
 
   everywhere-sorted : Sorted Earlier everywhere
   everywhere-sorted = each-sorted Earlier leaving 0 n
-      (λ x _. each-sorted Earlier (along x) 0 roleCount
-      (λ r _. each-sorted Earlier (λ y. cond (edge r x y) ((x ∷ r ∷ y ∷ []) ∷ []) []) 0 n (λ y _. cond-sorted Earlier (edge r x y) (x ∷ r ∷ y ∷ []))
-      (λ y z b _ e f i j. subst₂ Earlier (sym (cond-elim (edge r x y) i .1)) (sym (cond-elim (edge r x z) j .1)) (inr (refl, inr (refl, b)))))
-      (λ r q b _ e f i j. subst₂ Earlier (sym (along-elim x r e i .3)) (sym (along-elim x q f j .3)) (inr (refl, inl b))))
+      (λ x _. leaving-sorted x)
       (λ x z b _ e f i j. subst₂ Earlier (sym (leaving-elim x e i .5)) (sym (leaving-elim z f j .5)) (inl b))
 
 -- ---- the words of the model
