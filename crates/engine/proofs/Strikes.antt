@@ -5,7 +5,7 @@ use mathlib.Core.Path.{_≡_, refl, sym, _∙_, ap, subst}
 use mathlib.Core.Logic.{_⊎_, inl, inr, ⊎-elim}
 use mathlib.Core.List.{List, [], _∷_, _++_, append-nil, map, map-map}
 use lib.ListN.{length, getD, set, take, drop, replicate, length-map, drop-of-length-le, replicate-append-replicate}
-use lib.Seq.{drop-cons, getD-take, length-take-le, take-suc-set}
+use lib.Seq.{drop-cons, getD-take, take-suc-set}
 use lib.Dec.{ltb}
 use native.Mathlib.Nat.{zero-add}
 use native.Mathlib.Numerals.{add-one}
@@ -237,10 +237,6 @@ module _ {s : Sheet} {whole : List Label} {before : List ℕ} {i used : ℕ} {bu
       close-full d =
           let (f, b, e) = next in
           fill-full (g .filling) t (rw (← e) (grown-longer s (reach-grown s f (i + 1) grownBy (grown-known s grown-so)))) d
-
--- ---- the labels of a joint label, one after the other
-pub joint-length : {A : Type 0} (f : Label → A) (j : Joint) → length (map f (j .labels)) ≡ 8 → j .count ≤ 8 → length (jointOf j) ≡ j .count
-joint-length f j e h = length-take-le (j .count) (j .labels) (omega (arith, length-map (j .labels) f))
 
 pub joint-at : (j : Joint) (a : ℕ) → a < j .count → getD (j .labels) a blank ≡ label (jointOf j) a
 joint-at j a h = sym (getD-take (j .count) (j .labels) a blank h)

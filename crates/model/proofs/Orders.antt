@@ -5,8 +5,8 @@ use mathlib.Core.Bool.{Bool, true, false, cond}
 use mathlib.Core.Path.{_≡_, refl, sym, _∙_, ap, subst}
 use mathlib.Core.Logic.{⊎-elim}
 use mathlib.Core.List.{List, [], _∷_, _++_, map, map-append, Memᴰ·cast, Memᴰ·append-left, Memᴰ·append-right, Memᴰ·of-map}
-use lib.ListN.{length, take, drop, getD, set, length-set, length-map, drop-of-length-le}
-use lib.Seq.{length-take-le, getD-take, drop-cons, getD-set-same, getD-set-other, take-suc-set, take-set-le}
+use lib.ListN.{length, take, drop, getD, set, length-set, drop-of-length-le}
+use lib.Seq.{drop-cons, getD-set-same, getD-set-other, take-suc-set, take-set-le}
 use lib.Dec.{eqb}
 use lib.Bits.{bitAnd, bitOr}
 use borrow.Author.Tests.{eq-eqb, ne-eqb, lt-ltb, le-ltb}
@@ -40,6 +40,7 @@ use Rattle.tableau.proofs.Members.{members, members-none}
 use Rattle.tableau.proofs.Chosen.{Inside, lowest-of, rest-of, rest-each, rest-inside}
 use Rattle.tableau.proofs.Buffers.{distinct-place, found-label, in-found, seedsAt, asking-inside, seeds-asked}
 use Rattle.engine.proofs.Ledgers.{recorded-at, length-recorded, recorded-in, standing-in, stand-fine}
+use Rattle.engine.proofs.Strikes.{joint-at}
 
 -- ---- two places exchanged
 -- where the word at place k was before
@@ -301,13 +302,6 @@ module _ {p : List ℕ} {l : Label} {used start : ℕ} {recs marks : List ℕ} {
           asked = λ q i. left-in q (Memᴰ·append-right first-ones i);
           loop = bringing-on (g .loop) (linesOnward p l (rest-of left)) b (sym (includeAll-append C first-ones others) ∙ ap (includeAll C) (sym left-seeds));
         }
-
--- ---- the seeds of a joint label, element by element
-pub joint-length : {A : Type 0} (f : Label → A) (j : Joint) → length (map f (j .labels)) ≡ 8 → j .count ≤ 8 → length (jointOf j) ≡ j .count
-joint-length f j e h = length-take-le (j .count) (j .labels) (omega (arith, length-map (j .labels) f))
-
-pub joint-at : (j : Joint) (a : ℕ) → a < j .count → getD (j .labels) a blank ≡ label (jointOf j) a
-joint-at j a h = sym (getD-take (j .count) (j .labels) a blank h)
 
 abbrev pub jointOnward : Sheet → theory.Joint → ℕ → List Label → List Label
 jointOnward s J a C = includeAll C (each (seeds s) (drop a J))

@@ -254,10 +254,6 @@ distinct-front : {A : Type 0} (xs ys : List A) → Distinct (xs ++ ys) → Disti
 distinct-front [] ys d = tt
 distinct-front (x ∷ xs) ys (new, d) = (λ m. new (Memᴰ·append-left ys m), distinct-front xs ys d)
 
--- an array of eight has as many labels as it counts
-pub joint-length : {A : Type 0} (f : Label → A) (j : Joint) → length (map f (j .labels)) ≡ 8 → j .count ≤ 8 → length (jointOf j) ≡ j .count
-joint-length f j e h = length-take-le (j .count) (j .labels) (omega (arith, length-map (j .labels) f))
-
 module _ {s : Sheet} {j : Joint} {used seeds : ℕ} {recs marks : List ℕ} (r : Ready s j used seeds recs marks) (long : length (jointOf j) ≡ j .count) where
   abbrev seedsOf : List Label
   seedsOf = recorded seeds recs

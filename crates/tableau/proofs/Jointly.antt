@@ -1,9 +1,9 @@
 -- The next step of a joint label: what each individual chooses, what the role assertions push, and the settled joint labels by it.
-use Prim.Native.Nat.{ℕ, suc, _+_, _≤_, _<_}
+use Prim.Native.Nat.{ℕ, _+_, _≤_, _<_}
 use mathlib.Core.Bool.{Bool, true, false, _||_}
 use mathlib.Core.Path.{_≡_, refl, sym, _∙_, ap, ap₂, subst}
 use mathlib.Core.Logic.{⊎-elim}
-use mathlib.Core.List.{List, [], _∷_, map, map-map, Memᴰ·map}
+use mathlib.Core.List.{List, [], _∷_, map}
 use native.Mathlib.Numerals.{add-one}
 use native.Mathlib.Omega.{arith}
 use lib.ListN.{length, getD, drop, set, length-map, drop-of-length-le}
@@ -11,10 +11,9 @@ use lib.Seq.{length-take-le, drop-cons, getD-take}
 use types.Run.{OneOf}
 use denote.Enum.Declared.{tagOf}
 use Rattle.tableau.proofs.joint.Next.{the-type}
-use lib.Dec.{ltb}
-use borrow.Author.Tests.{ltb-true, not-true}
-use Rattle.alc.specs.Lists.{_∈_, Maybe, nothing, just, all, first, each, upTo}
-use Rattle.alc.specs.Sheet.{Sheet, count, inLimits, mostRoles}
+use borrow.Author.Tests.{not-true}
+use Rattle.alc.specs.Lists.{Maybe, nothing, just, all, first, each, upTo}
+use Rattle.alc.specs.Sheet.{Sheet, count}
 use Rattle.alc.specs.declared.Label.{Label}
 use Rattle.alc.specs.declared.Mark.{Mark}
 use Rattle.alc.specs.declared.Mark.the-variants.{Holds as holds, Fails as fails}
@@ -22,20 +21,19 @@ use Rattle.alc.specs.Label.{lineOf, blank, has, add, addAll, join, Demand, ever
 use Rattle.alc.specs.Settle as theory
 use Rattle.alc.specs.Settle.{label, Move, push, movesOf, moves, who, wanted, adds, meet, closes, next, follow, settle}
 use Rattle.alc.specs.Theorems.Bits.{put-true}
-use Rattle.alc.specs.Theorems.Lists.{cases, any-none, and-left, and-right, all-intro, length-from, upTo-intro, Found, found, first-is}
+use Rattle.alc.specs.Theorems.Lists.{cases, any-none, and-left, and-right, all-intro, Found, found, first-is}
 use Rattle.alc.specs.Theorems.Sheet.{WellFormed, well-formed}
 use Rattle.alc.specs.Theorems.Moves.{label-in, Listed, moves-elim, addAll-has}
 use Rattle.alc.specs.Theorems.Steps.{unsetAll, DemandBelow, below-mono}
 use Rattle.alc.specs.Theorems.Settle.{Fits, Less, meet-less, wanted-below, who-below, settle-law}
-use Rattle.sheet.specs.Form.{roleOf}
 use Rattle.tableau.specs.declared.step.Choice.{Choice}
 use Rattle.tableau.specs.declared.joint.Joint.{Joint}
 use Rattle.tableau.specs.declared.joint.Next.{Next}
 use Rattle.tableau.specs.declared.joint.Next.the-variants.{Clashed, Settled, Onward, Split}
-use Rattle.tableau.specs.Plan.{entryFrom, planSheet, Prepared}
+use Rattle.tableau.specs.Plan.{planSheet, Prepared}
 use Rattle.tableau.specs.Choice.{choiceOf, choice}
 use Rattle.tableau.specs.Joints.{jointOf, Fit, ownStep, assertionAt, metBy, stepOf, nextOf, settleBy}
-use Rattle.tableau.proofs.Lines.{lines-fit}
+use Rattle.tableau.proofs.Lines.{lines-fit, roles-are, role-in, role-count, roles-fit}
 use Rattle.tableau.proofs.Chosen.{addAll-join, orElse, first-append}
 use Rattle.tableau.proofs.Firsts.{or-found, Meets, settled, meets, paired-moves, first-meets}
 
@@ -104,34 +102,15 @@ own-is s j a h k e n q = q ∙ ap (ownStep a) (e ∙ ap (choice s) (sym (label-a
 
 -- ---- the role assertions of a plan
 module _ (p : List ℕ) where
-  -- the numbers of a role assertion make it
-  roles-are : planSheet p .roles ≡ map (assertionAt p) (upTo (getD p 388 0))
-  unfolding planSheet
-  roles-are = map-map roleOf (entryFrom p 288) (upTo (getD p 388 0))
-
-  pub role-count : length (planSheet p .roles) ≡ getD p 388 0
-  role-count = rw roles-are (length-map (upTo (getD p 388 0)) (assertionAt p) ∙ length-from 0 (getD p 388 0))
-
-  role-in : (e : ℕ) → e < getD p 388 0 → assertionAt p e ∈ planSheet p .roles
-  role-in e h = rw roles-are (Memᴰ·map (assertionAt p) (upTo-intro (getD p 388 0) e h))
-
   -- pushes one by one
   pub push-each : map push (planSheet p .roles) ≡ each (λ e. push (assertionAt p e) ∷ []) (upTo (getD p 388 0))
-  push-each = rw roles-are (go (upTo (getD p 388 0)))
+  push-each = rw (roles-are p) (go (upTo (getD p 388 0)))
     where
       go : (is : List ℕ) → map push (map (assertionAt p) is) ≡ each (λ e. push (assertionAt p e) ∷ []) is
       go [] = refl
       go (i ∷ is) = ap {B = List Move} (λ r. push (assertionAt p i) ∷ r) (go is)
 
 module _ {p : List ℕ} (h : Prepared p) where
-  pub roles-fit : getD p 388 0 ≤ 16
-  unfolding inLimits
-  roles-fit =
-      let s = planSheet p in
-      let l : inLimits s ≡ true = h .limited in
-      let a : ltb (length (s .roles)) (suc mostRoles) ≡ true = search (and-left, and-right) in
-      omega (arith, ltb-true (length (s .roles)) (suc mostRoles) a, role-count p)
-
   -- both ends are individuals
   pub role-inside : (e : ℕ) → e < getD p 388 0 → (assertionAt p e .source < planSheet p .individuals) × (assertionAt p e .target < planSheet p .individuals)
   role-inside e b = well-formed (planSheet p) (h .well) .roles (assertionAt p e) (role-in p e b)

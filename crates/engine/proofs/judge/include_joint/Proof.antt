@@ -9,7 +9,8 @@ use Rattle.alc.specs.Seeds.{includeAll, seeds}
 use Rattle.tableau.specs.Plan.{planSheet}
 use Rattle.tableau.specs.Records.{recorded}
 use Rattle.tableau.specs.Joints.{jointOf}
-use Rattle.engine.proofs.Strikes.{joint-length, joint-at, Gathering, gathered, gather-on, gather-full}
+use Rattle.engine.proofs.Strikes.{joint-at, Gathering, gathered, gather-on, gather-full}
+use Rattle.tableau.proofs.Jointly.{joint-length}
 use Rattle.engine.proofs.judge.include_joint.Statement.{statement}
 use Rattle.engine.proofs.judge.include_joint.Tie as tie
 use Rattle.engine.proofs.judge.include_joint.Reads as reads

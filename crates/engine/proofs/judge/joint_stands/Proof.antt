@@ -12,7 +12,8 @@ use Rattle.alc.specs.Seeds.{served}
 use Rattle.tableau.specs.Plan.{planSheet}
 use Rattle.tableau.specs.Walks.{standing}
 use Rattle.tableau.specs.Joints.{jointOf}
-use Rattle.engine.proofs.Strikes.{joint-length, joint-at, all-end, all-turn}
+use Rattle.engine.proofs.Strikes.{joint-at, all-end, all-turn}
+use Rattle.tableau.proofs.Jointly.{joint-length}
 use Rattle.engine.proofs.judge.joint_stands.Statement.{statement}
 use Rattle.engine.proofs.judge.joint_stands.Tie as tie
 use Rattle.engine.proofs.judge.joint_stands.Reads as reads

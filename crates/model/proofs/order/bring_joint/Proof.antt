@@ -13,7 +13,9 @@ use Rattle.tableau.specs.Plan.{planSheet}
 use Rattle.tableau.specs.Records.{recorded}
 use Rattle.tableau.specs.Joints.{jointOf}
 use Rattle.model.specs.Sound.{SeedsIn}
-use Rattle.model.proofs.Orders.{Bringing, bringing, bringing-on, bringing-done, still-in, jointOnward, joint-length, joint-at, joint-end, joint-turn}
+use Rattle.model.proofs.Orders.{Bringing, bringing, bringing-on, bringing-done, still-in, jointOnward, joint-end, joint-turn}
+use Rattle.tableau.proofs.Jointly.{joint-length}
+use Rattle.engine.proofs.Strikes.{joint-at}
 use Rattle.model.proofs.order.bring_joint.Statement.{statement}
 use Rattle.model.proofs.order.bring_joint.Tie as tie
 

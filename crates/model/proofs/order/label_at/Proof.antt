@@ -10,7 +10,8 @@ use Rattle.tableau.specs.Plan.{planSheet}
 use Rattle.tableau.specs.Records.{recorded}
 use Rattle.tableau.specs.Joints.{jointOf}
 use Rattle.engine.proofs.Ledgers.{recorded-at}
-use Rattle.model.proofs.Orders.{joint-length, label-individual, label-seed, walk-in}
+use Rattle.model.proofs.Orders.{label-individual, label-seed, walk-in}
+use Rattle.tableau.proofs.Jointly.{joint-length}
 use Rattle.model.proofs.order.label_at.Statement.{statement}
 use Rattle.model.proofs.order.label_at.Tie as tie
 use Rattle.model.proofs.order.label_at.Reads as reads

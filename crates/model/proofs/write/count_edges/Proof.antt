@@ -8,7 +8,8 @@ use Rattle.alc.specs.Lists.{each, upTo}
 use Rattle.tableau.specs.Plan.{planSheet}
 use Rattle.tableau.specs.Records.{recorded}
 use Rattle.tableau.specs.Joints.{jointOf}
-use Rattle.model.proofs.Worded.{length-more, joint-length, seeds-length, seeds-distinct, element-edges, element-seeds, edgesAt, counted-all, row-count}
+use Rattle.model.proofs.Worded.{length-more, seeds-length, seeds-distinct, element-edges, element-seeds, edgesAt, counted-all, row-count}
+use Rattle.tableau.proofs.Jointly.{joint-length}
 use Rattle.model.proofs.write.count_edges.Statement.{statement}
 use Rattle.model.proofs.write.count_edges.Tie as tie
 use Rattle.model.proofs.write.count_edges.Reads as reads

@@ -11,7 +11,8 @@ use Rattle.tableau.specs.Plan.{planSheet}
 use Rattle.tableau.specs.Records.{recorded}
 use Rattle.tableau.specs.Joints.{jointOf}
 use Rattle.model.specs.Keys.{keysOf, edgeOf}
-use Rattle.model.proofs.Worded.{Laying, laying, joint-length, seeds-length, seeds-distinct, element-edges, element-seeds, size, edgesAt, edgeWords, row-room, lay-row, laid-rows}
+use Rattle.model.proofs.Worded.{Laying, laying, seeds-length, seeds-distinct, element-edges, element-seeds, size, edgesAt, edgeWords, row-room, lay-row, laid-rows}
+use Rattle.tableau.proofs.Jointly.{joint-length}
 use Rattle.model.proofs.write.write_edges.Statement.{statement}
 use Rattle.model.proofs.write.write_edges.Tie as tie
 use Rattle.model.proofs.write.write_edges.Reads as reads

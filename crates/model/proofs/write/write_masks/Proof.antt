@@ -6,7 +6,8 @@ use lib.ListN.{length}
 use Rattle.tableau.specs.Plan.{planSheet}
 use Rattle.tableau.specs.Records.{recorded}
 use Rattle.tableau.specs.Joints.{jointOf}
-use Rattle.model.proofs.Worded.{Laying, laying, joint-length, seeds-length, element-label, maskWords, lay-mask, laid-masks}
+use Rattle.model.proofs.Worded.{Laying, laying, seeds-length, element-label, maskWords, lay-mask, laid-masks}
+use Rattle.tableau.proofs.Jointly.{joint-length}
 use Rattle.model.proofs.write.write_masks.Statement.{statement}
 use Rattle.model.proofs.write.write_masks.Tie as tie
 use Rattle.model.proofs.write.write_masks.Reads as reads

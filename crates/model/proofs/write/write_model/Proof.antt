@@ -13,7 +13,8 @@ use Rattle.tableau.specs.Plan.{planSheet}
 use Rattle.tableau.specs.Records.{recorded}
 use Rattle.tableau.specs.Joints.{jointOf}
 use Rattle.model.specs.Laid.{masksOf, wordsOf}
-use Rattle.model.proofs.Worded.{written, length-written, written-next, written-part, joint-length, seeds-length, size, edges-few, edges-length, edge-words, masks-length, words-length, words-by-parts}
+use Rattle.model.proofs.Worded.{written, length-written, written-next, written-part, seeds-length, size, edges-few, edges-length, edge-words, masks-length, words-length, words-by-parts}
+use Rattle.tableau.proofs.Jointly.{joint-length}
 use Rattle.model.proofs.write.write_model.Statement.{statement}
 use Rattle.model.proofs.write.write_model.Tie as tie
 use Rattle.model.proofs.write.write_model.Reads as reads
