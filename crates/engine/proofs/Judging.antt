@@ -4,7 +4,7 @@ use mathlib.Core.Bool.{Bool, true, false}
 use mathlib.Core.Path.{_≡_, refl, sym, _∙_, ap, subst}
 use mathlib.Core.Logic.{⊎-elim}
 use mathlib.Core.List.{List, [], _∷_, _++_, append-assoc, append-nil, Memᴰ·append-left}
-use lib.ListN.{length, getD, take, set, replicate, length-set, length-replicate, getD-replicate, List·getD-append}
+use lib.ListN.{length, getD, take, set, replicate, length-replicate, getD-replicate, List·getD-append}
 use lib.Seq.{length-take-le, getD-take, getD-append-add}
 use borrow.Rule.Slice.PartMut.{midOf, postOf, putMid, same-len-mid, mid-len}
 use types.Run.{OneOf}
@@ -162,7 +162,7 @@ module _ (s : Sheet) where
 pub not-going : {v : Verdict} → OneOf (0 ∷ 2 ∷ []) (tagOf the-type v) → (n : ℕ) → v ≡ Going n → ⊥
 not-going {v} k n e = ⊎-elim (λ x. omega arith) (λ x. omega arith) (rw e at k)
 
-module _ (s : Sheet) (j : Joint) (used : ℕ) (before marks : List ℕ) where
+module _ (s : Sheet) (j : Joint) (fit : Fit s j) (used : ℕ) (before marks : List ℕ) where
   -- it clashes: there are none
   pub judged-clashed : Lent used before marks → Known s (recorded used before) → settle s (s .roles) (jointOf j) ≡ []
       → JudgedAll s (jointOf j) used before marks (record { joint = j; verdict = Going used }) before marks
@@ -173,7 +173,7 @@ module _ (s : Sheet) (j : Joint) (used : ℕ) (before marks : List ℕ) where
       lent = λ n q. subst (λ (i : ℕ). Lent i before marks) (so n q) lent;
       known = λ n q. subst (λ (i : ℕ). Known s (recorded i before)) (so n q) known;
     };
-    joint = refl;
+    joint = fit;
     told = λ Js ledger. rw (e, append-nil) (ledger, refl);
   }
     where
@@ -186,16 +186,16 @@ module _ (s : Sheet) (j : Joint) (used : ℕ) (before marks : List ℕ) where
       → JudgedAll s (jointOf j) used before marks (record { joint = j; verdict = v }) after marks′
   judged-settled e {v} {after} {marks′} one = record {
     kept = one .kept;
-    joint = refl;
+    joint = fit;
     told = λ Js ledger. rw e (told-one s Js j v after marks′ (one .told Js ledger));
   }
 
 -- marks are added to a label: its settled joint labels are K's, or K's and then L's
-module _ (s : Sheet) (J K : theory.Joint) (size : length K ≡ length J) (used : ℕ) (before marks : List ℕ) where
+module _ (s : Sheet) (J K : theory.Joint) (used : ℕ) (before marks : List ℕ) where
   -- all are K's
   pub judged-onward : settle s (s .roles) J ≡ settle s (s .roles) K → {r : Judged} {after marks′ : List ℕ} → JudgedAll s K used before marks r after marks′
       → JudgedAll s J used before marks r after marks′
-  judged-onward e k = record { kept = k .kept; joint = k .joint ∙ size; told = λ Js ledger. rw e (k .told Js ledger) }
+  judged-onward e k = record { kept = k .kept; joint = k .joint; told = λ Js ledger. rw e (k .told Js ledger) }
 
   module _ (L : theory.Joint) (e : settle s (s .roles) J ≡ settle s (s .roles) K ++ settle s (s .roles) L) where
     -- one of K's is fine, or there is no room
@@ -203,7 +203,7 @@ module _ (s : Sheet) (J K : theory.Joint) (size : length K ≡ length J) (used :
         → JudgedAll s J used before marks r after marks′
     judged-first {r} {after} {marks′} k h = record {
       kept = k .kept;
-      joint = k .joint ∙ size;
+      joint = k .joint;
       told = λ Js ledger. rw e (told-first s Js (settle s (s .roles) K) (settle s (s .roles) L) r (r .verdict) h after marks′ (k .told Js ledger));
     }
 
@@ -215,11 +215,11 @@ module _ (s : Sheet) (J K : theory.Joint) (size : length K ≡ length J) (used :
           ((k .kept .lent n e, omega (arith, k .kept .size, k .kept .marked)), k .kept .known n e)
 
       -- none of K's is fine, and then L's were judged
-      pub judged-both : length L ≡ length J → {q : Judged} {after marks′ : List ℕ} → JudgedAll s L n mid marks₁ q after marks′
+      pub judged-both : {q : Judged} {after marks′ : List ℕ} → JudgedAll s L n mid marks₁ q after marks′
           → JudgedAll s J used before marks q after marks′
-      judged-both same {q} {after} {marks′} l = record {
+      judged-both {q} {after} {marks′} l = record {
         kept = record { size = l .kept .size ∙ k .kept .size; marked = l .kept .marked ∙ k .kept .marked; lent = l .kept .lent; known = l .kept .known };
-        joint = l .joint ∙ same;
+        joint = l .joint;
         told = λ Js ledger. let (now, none) = first-told Js ledger in
             rw e (told-both s Js (settle s (s .roles) K) (settle s (s .roles) L) none q (q .verdict) after marks′
             (l .told (Js ++ upTo s (settle s (s .roles) K)) now));
@@ -230,19 +230,17 @@ module _ (s : Sheet) (J K : theory.Joint) (size : length K ≡ length J) (used :
           first-told Js ledger = subst (λ (v : Verdict). ToldAll s Js (settle s (s .roles) K) r v mid marks₁) going (k .told Js ledger)
 
 -- ---- a joint label that the code has made from j: f of its label at a, so that it is K
-pub record Branch (s : Sheet) (J K : theory.Joint) (t : ℕ) (r : Joint) : Type 0 where
+pub record Branch (s : Sheet) (K : theory.Joint) (t : ℕ) (r : Joint) : Type 0 where
   pub settles : settle s (s .roles) (jointOf r) ≡ settle s (s .roles) K
-  pub size : length (jointOf r) ≡ length J
   pub fits : Fit s r
   pub less : unsetAll 32 (jointOf r) < t
 
 -- so it is, and fewer of its marks are unset
 pub branch : {s : Sheet} {j : Joint} {t : ℕ} → Fit s j → unsetAll 32 (jointOf j) ≡ t → (r : Joint) (a : ℕ) (f : Label → Label) → a < j .count
     → unsetAll 32 (set (jointOf j) a (f (label (jointOf j) a))) < unsetAll 32 (jointOf j) → {l : Label} → l ≡ f (getD (j .labels) a blank)
-    → (jointOf r ≡ set (jointOf j) a l) × (r .count ≡ j .count) → Branch s (jointOf j) (set (jointOf j) a (f (label (jointOf j) a))) t r
+    → (jointOf r ≡ set (jointOf j) a l) × (r .count ≡ j .count) → Branch s (set (jointOf j) a (f (label (jointOf j) a))) t r
 branch {s} {j} {t} fit now r a f inside fewer {l} e w = record {
   settles = ap (settle s (s .roles)) (with-is j r a f l inside e w);
-  size = ap (λ (K : theory.Joint). length K) (w .0) ∙ length-set (jointOf j) a l;
   fits = with-fits j r a f l inside e w s fit;
   less = with-falls j r a f l inside e w 32 t now fewer;
 }

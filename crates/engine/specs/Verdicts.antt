@@ -16,7 +16,7 @@ use Rattle.engine.specs.declared.judge.Verdict.the-variants.{Full, Going
 use Rattle.engine.specs.declared.judge.Judged.{Judged}
 use Rattle.tableau.specs.Records.{recorded}
 use Rattle.tableau.specs.Walks.{standing}
-use Rattle.tableau.specs.Joints.{jointOf}
+use Rattle.tableau.specs.Joints.{jointOf, Fit}
 use Rattle.engine.specs.Ledger.{Known, Lent, Struck, Stable, Ledger}
 
 -- the seeds reached from Js outnumber the room
@@ -67,5 +67,5 @@ ToldAll s Js Ks r (Fine n) recs marks = Ledger s (Js ++ upToFirst (all (fine s))
 
 pub record JudgedAll (s : Sheet) (J : theory.Joint) (used : ℕ) (before marks : List ℕ) (r : Judged) (after marks′ : List ℕ) : Type 0 where
   pub kept : Kept s before marks (r .verdict) after marks′
-  pub joint : length (jointOf (r .joint)) ≡ length J
+  pub joint : Fit s (r .joint)
   pub told : (Js : List theory.Joint) → Ledger s Js used before marks → ToldAll s Js (settle s (s .roles) J) r (r .verdict) after marks′

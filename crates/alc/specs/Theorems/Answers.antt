@@ -28,11 +28,11 @@ no-extra : (x : Entry) → x ∈ [] → ⊥
 no-extra x h = List·Memᴰ·not-nil h
 
 module _ (s : Sheet) (room : ℕ) where
-  reply-short : room < length (recordsNeeded s []) → satisfyAnswer s room ≡ record { number = 13; out = [] }
+  pub reply-short : room < length (recordsNeeded s []) → satisfyAnswer s room ≡ record { number = 13; out = [] }
   unfolding satisfyAnswer
   reply-short h = rw (lt-ltb room (length (recordsNeeded s [])) h, satisfyAnswer)
 
-  reply-told : length (recordsNeeded s []) ≤ room → satisfyAnswer s room ≡ told s (firstFine s [])
+  pub reply-told : length (recordsNeeded s []) ≤ room → satisfyAnswer s room ≡ told s (firstFine s [])
   unfolding satisfyAnswer
   reply-told h = rw (le-ltb room (length (recordsNeeded s [])) h, satisfyAnswer)
 

@@ -31,7 +31,7 @@ module _ (rs ms os : List ℕ) where
       ⊎-elim (λ t. let h = ltb-true mostRecords (length rs) t in omega arith) (λ t. let h = ltb-true (length ms) (length rs) t in omega arith)
       (or-cases (ltb mostRecords (length rs)) (ltb (length ms) (length rs)) e)
 
-  lent-well : (ltb mostRecords (length rs) || ltb (length ms) (length rs)) ≡ false → LentWell rs ms
+  pub lent-well : (ltb mostRecords (length rs) || ltb (length ms) (length rs)) ≡ false → LentWell rs ms
   lent-well e = (
     ltb-false mostRecords (length rs) (or-false-left (ltb mostRecords (length rs)) (ltb (length ms) (length rs)) e),
     ltb-false (length ms) (length rs) (or-false-right (ltb mostRecords (length rs)) (ltb (length ms) (length rs)) e),
@@ -45,12 +45,12 @@ module _ (rs ms os : List ℕ) where
       (cases (ltb mostRecords (length rs) || ltb (length ms) (length rs)))
 
   -- ---- a result where it fits its buffer, where it does not, and none
-  data Finished (n : ℕ) (r : Answer) : Type 0 where
+  pub data Finished (n : ℕ) (r : Answer) : Type 0 where
     fits : r .number ≡ n → length (r .out) ≤ length os → finished rs ms os n r ≡ cleared rs ms os n (length (r .out)) (r .out) → Finished n r
     long : r .number ≡ n → length os < length (r .out) → finished rs ms os n r ≡ cleared rs ms os (suc n) (length (r .out)) [] → Finished n r
     none : (r .number ≡ n → ⊥) → finished rs ms os n r ≡ cleared rs ms os (r .number) 0 [] → Finished n r
 
-  finished-cases : (n : ℕ) (r : Answer) → Finished n r
+  pub finished-cases : (n : ℕ) (r : Answer) → Finished n r
   finished-cases n r =
       ⊎-elim
       (λ (e : eqb (r .number) n ≡ true). ⊎-elim
@@ -60,7 +60,7 @@ module _ (rs ms os : List ℕ) where
       (λ (e : eqb (r .number) n ≡ false). none (eqb-false (r .number) n e) (rw (e, finished)))
       (cases (eqb (r .number) n))
 
-  zeros-alone : (k v : ℕ) → cleared rs ms os k v [] .out ≡ replicate (length os) 0
+  pub zeros-alone : (k v : ℕ) → cleared rs ms os k v [] .out ≡ replicate (length os) 0
   zeros-alone k v = let all : length os - 0 ≡ length os = omega arith in ap (λ (n : ℕ). replicate n 0) all
 
   zeros-behind : (k : ℕ) (ws : List ℕ) → length ws ≤ length os → ZerosBehind os (cleared rs ms os k (length ws) ws)
@@ -234,6 +234,10 @@ module _ (bs rs ms os : List ℕ) where
         (λ (_, e). subst (λ (o : Reply). SatisfyMeans s (length rs) os o) (sym (e ∙ ap (satisfyRead rs ms os) r)) (satisfy-means bs rs ms os s p r))
         (checked-cases rs ms os (satisfyRead rs ms os (readSheet bs)));
   }
+
+  -- what equals the reply keeps the promise
+  pub satisfy-kept : {o : Reply} → o ≡ satisfyReply bs rs ms os → SatisfyPromise bs rs ms os o
+  satisfy-kept e = subst (λ (x : Reply). SatisfyPromise bs rs ms os x) (sym e) satisfy-promise
 
   pub satisfy-unique : (o o′ : Reply) → SatisfyPromise bs rs ms os o → SatisfyPromise bs rs ms os o′ → o ≡ o′
   satisfy-unique o o′ p q = p .exact ∙ sym (q .exact)

@@ -121,7 +121,7 @@ module _ (t : ℕ) (c : judge-lts.After-with (calls t) (judge-at t) judge.Post) 
   abbrev added : judge-lts.After-next (calls t) (judge-at t) judge.Post
   added = c .before .before .before .before
 
-  made : Branch (s t (onward t added)) (J t (onward t added)) (joined t added) t (c .with .result)
+  made : Branch (s t (onward t added)) (joined t added) t (c .with .result)
   made =
       branch (fit t (onward t added)) (start t (onward t added) .pre .0) (c .with .result) (at t added) (λ (l : Label). join l (marks t added))
       (onward-fresh t added .0) (onward-fresh t added .1) (c .before .join .ensures) (c .with .ensures)
@@ -150,10 +150,10 @@ module _ (t : ℕ) (c : judge-lts.After-next2 (calls t) (judge-at t) judge.Post)
   split-at = omega (arith, split-fresh .0, fit t split .small)
 
   made-by : (m : Mark) → Fresh 32 (J t split) by m → (r : Joint) {l : Label} → l ≡ add (getD (j t split .labels) by blank) m
-      → (jointOf r ≡ set (J t split) by l) × (r .count ≡ j t split .count) → Branch (s t split) (J t split) (marked m) t r
+      → (jointOf r ≡ set (J t split) by l) × (r .count ≡ j t split .count) → Branch (s t split) (marked m) t r
   made-by m new r = branch (fit t split) (start t split .pre .0) r by (λ (l : Label). add l m) (split-fresh .0) (new .1)
 
-  both : (r : Joint) (L : theory.Joint) → Branch (s t split) (J t split) (marked m₁) t r → settled t split L ≡ settled t split (marked m₂)
+  both : (r : Joint) (L : theory.Joint) → Branch (s t split) (marked m₁) t r → settled t split L ≡ settled t split (marked m₂)
       → settled t split (J t split) ≡ settled t split (jointOf r) ++ settled t split L
   both r L f e = settles t split (Split by m₁ m₂) (c .next2 .given .1) ∙ ap₂ _++_ (sym (f .settles)) (sym e)
 
@@ -161,14 +161,14 @@ module _ (t : ℕ) (c : judge-lts.After-with2 (calls t) (judge-at t) judge.Post)
   abbrev first : judge-lts.After-next2 (calls t) (judge-at t) judge.Post
   first = c .before .before .before .before
 
-  made₁ : Branch (s t (split t first)) (J t (split t first)) (marked t first (m₁ t first)) t (c .with2 .result)
+  made₁ : Branch (s t (split t first)) (marked t first (m₁ t first)) t (c .with2 .result)
   made₁ = made-by t first (m₁ t first) (split-fresh t first .1) (c .with2 .result) (c .before .add .ensures) (c .with2 .ensures)
 
 module _ (t : ℕ) (c : judge-lts.After-with3 (calls t) (judge-at t) judge.Post) where
   abbrev second : judge-lts.After-next2 (calls t) (judge-at t) judge.Post
   second = c .before .before .before .before .before .before .before .before .before .before .before .before .before .before .before .before
 
-  made₂ : Branch (s t (split t second)) (J t (split t second)) (marked t second (m₂ t second)) t (c .with3 .result)
+  made₂ : Branch (s t (split t second)) (marked t second (m₂ t second)) t (c .with3 .result)
   made₂ = made-by t second (m₂ t second) (split-fresh t second .2) (c .with3 .result) (c .before .add2 .ensures) (c .with3 .ensures)
 
 -- src/judge.rt:209:9
@@ -273,7 +273,7 @@ judge-judge-requires-3 t c κs =
     let o = made₁ t (f .before .before .before) in
     let n = split t (second t w) in
     let rest =
-    first-ready (s t n) (J t n) _ (o .size) _ _ _ _ (both t (second t w) _ _ o (made₂ t w .settles)) (v .verdict .given .0 .0) (f .judge2 .ensures)
+    first-ready (s t n) (J t n) _ _ _ _ _ (both t (second t w) _ _ o (made₂ t w .settles)) (v .verdict .given .0 .0) (f .judge2 .ensures)
     (v .verdict .given .1) (start t n .pre .1 .1 .1 .0 .1) in
     (made₂ t w .less, (ready t n, (made₂ t w .fits, rest)))
 
@@ -282,7 +282,7 @@ judge-returns : (t : ℕ) → judge-lts.Need-returns (calls t) (judge-at t) judg
 judge-returns t c =
     let n = c .before .before .before in
     let a = start t n in
-    rw (c .told .ensures) (judged-clashed (s t n) (j t n) _ _ _ (a .pre .1 .1 .1 .0 .0) (a .pre .1 .1 .1 .1) (settles t n Clashed (c .before .enum-told .given .1)))
+    rw (c .told .ensures) (judged-clashed (s t n) (j t n) (fit t n) _ _ _ (a .pre .1 .1 .1 .0 .0) (a .pre .1 .1 .1 .1) (settles t n Clashed (c .before .enum-told .given .1)))
 
 -- src/judge.rt:196:1
 judge-same-length : (t : ℕ) → judge-lts.Need-same-length (calls t) (judge-at t) judge.Post
@@ -297,7 +297,7 @@ judge-returns-2 : (t : ℕ) → judge-lts.Need-returns-2 (calls t) (judge-at t) 
 judge-returns-2 t c =
     let n = c .before .before .before .before .before .before .before .before .before .before in
     let d = c .before .before .before .before .before in
-    rw (c .told2 .ensures) (judged-settled (s t n) (j t n) _ _ _ (settles t n Settled (d .before .before .before .enum-told2 .given .1)) (d .judge-settled .ensures))
+    rw (c .told2 .ensures) (judged-settled (s t n) (j t n) (fit t n) _ _ _ (settles t n Settled (d .before .before .before .enum-told2 .given .1)) (d .judge-settled .ensures))
 
 -- src/judge.rt:196:1
 judge-same-length-3 : (t : ℕ) → judge-lts.Need-same-length-3 (calls t) (judge-at t) judge.Post
@@ -313,7 +313,7 @@ judge-returns-3 t c =
     let w = c .before .before .before .before .before .before .before in
     let d = added t w in
     let n = onward t d in
-    judged-onward (s t n) (J t n) _ (made t w .size) _ _ _ (settles t n (Onward (at t d) (marks t d)) (d .next .given .1) ∙ sym (made t w .settles))
+    judged-onward (s t n) (J t n) _ _ _ _ (settles t n (Onward (at t d) (marks t d)) (d .next .given .1) ∙ sym (made t w .settles))
     (c .before .before .before .before .judge .ensures)
 
 -- src/judge.rt:196:1
@@ -332,8 +332,8 @@ judge-returns-4 t c =
     let f = c .before .before .before .before .before .before .before .before .before .before .before .before .before .before .before .before in
     let o = made₁ t (f .before .before .before) in
     let n = split t (second t w) in
-    judged-both (s t n) (J t n) _ (o .size) _ _ _ _ (both t (second t w) _ _ o (made₂ t w .settles)) (v .verdict .given .0 .0) (f .judge2 .ensures) (v .verdict .given .1)
-    (made₂ t w .size) (c .before .before .before .before .judge3 .ensures)
+    judged-both (s t n) (J t n) _ _ _ _ _ (both t (second t w) _ _ o (made₂ t w .settles)) (v .verdict .given .0 .0) (f .judge2 .ensures) (v .verdict .given .1)
+    (c .before .before .before .before .judge3 .ensures)
 
 -- src/judge.rt:196:1
 judge-same-length-7 : (t : ℕ) → judge-lts.Need-same-length-7 (calls t) (judge-at t) judge.Post
@@ -350,7 +350,7 @@ judge-returns-5 t c =
     let o = made₁ t (f .before .before .before) in
     let d = first t (f .before .before .before) in
     let n = split t d in
-    judged-first (s t n) (J t n) _ (o .size) _ _ _ (marked t d (m₂ t d)) (both t d _ _ o refl) (f .judge2 .ensures) (not-going (c .match2 .keys2))
+    judged-first (s t n) (J t n) _ _ _ _ (marked t d (m₂ t d)) (both t d _ _ o refl) (f .judge2 .ensures) (not-going (c .match2 .keys2))
 
 pub +judge-spec : {M : Type 1} → statement M
 +judge-spec = close μ-judge λ t. judge-lts.spec (calls t)

@@ -1,0 +1,84 @@
+// The desk: the public functions. Any bytes, any numbers, any buffers: each answer is named, and for each it is settled what every buffer holds.
+// What is right stands in alc's specs/Replies.antt and specs/Promises.antt; specs/Desk.antt says what an answer's number and value are.
+pub mod decide; // the verdict on a sheet, and its model
+
+use crate::decide::clear_records;
+use crate::decide::clear_words;
+use crate::decide::decide;
+use engine::judge::clear_marks;
+use sheet::Outcome;
+use sheet::Reason;
+use sheet::read_sheet;
+use tableau::plan::prepare;
+ghost use mathlib.Core.Path.{_≡_};
+ghost use Prim.Native.Nat.{_<_};
+ghost use Rattle.alc.specs.Promises.{SatisfyPromise};
+ghost use Rattle.desk.specs.Desk.{answerNumber, answerValue, replyOf, lentBadly};
+
+// The answers of document 01, each with what it carries.
+pub enum Answer {
+    Refused(Reason, usize),
+    Model(usize),
+    LongModel(usize),
+    Unsatisfiable,
+    OutOfSpace,
+}
+
+// Document 01's number of an answer.
+pub fn answer_number(a: Answer) -> u64
+    ensures { λ r. ⌜ r ≡ answerNumber a ⌝ }
+{
+    match a {
+        Answer::Refused(why, _) => sheet::reason_number(why),
+        Answer::Model(_) => 10,
+        Answer::LongModel(_) => 11,
+        Answer::Unsatisfiable => 12,
+        Answer::OutOfSpace => 13,
+    }
+}
+
+// What it carries.
+pub fn answer_value(a: Answer) -> usize
+    ensures { λ r. ⌜ r ≡ answerValue a ⌝ }
+{
+    match a {
+        Answer::Refused(_, at) => at,
+        Answer::Model(words) => words,
+        Answer::LongModel(words) => words,
+        Answer::Unsatisfiable => 0,
+        Answer::OutOfSpace => 0,
+    }
+}
+
+// Over 4,096 records lent, or fewer mark bytes than records.
+fn lent_badly(records: usize, marks: usize) -> bool
+    ensures { λ r. ⌜ r ≡ lentBadly records marks ⌝ }
+{
+    if 4096 < records {
+        return true;
+    }
+    marks < records
+}
+
+// Is the sheet satisfiable? With its model, or the length that it wants.
+pub fn satisfy(sheet: &[u8], records: &mut [u64], marks: &mut [u8], model: &mut [u32]) -> Answer
+    ensures { λ r. ⌜ SatisfyPromise (now (sheet .entry)) (now (records .entry)) (now (marks .entry)) (now (model .entry)) (replyOf r (now (records .exit)) (now (marks .exit)) (now (model .exit))) ⌝ }
+{
+    if lent_badly(records.len(), marks.len()) {
+        return Answer::Refused(Reason::LentBadly, 0);
+    }
+    let read = read_sheet(sheet);
+    let outcome = read.outcome;
+    match outcome {
+        Outcome::Refused(why, at) => Answer::Refused(why, at),
+        Outcome::Accepted => {
+            let form = read.sheet;
+            let plan = prepare(form);
+            clear_words(model);
+            let answer = decide(&plan, records, marks, model);
+            clear_records(records);
+            clear_marks(marks);
+            answer
+        }
+    }
+}
