@@ -1,5 +1,7 @@
 -- The settled expansions of a label by the choice of the next step, and that the choice leaves fewer marks unset: what every walk over them goes by.
-use Prim.Native.Nat.{ℕ, _≤_, _<_}
+use Prim.Native.Nat.{ℕ, _≤_, _<_, _+_, _%_, _^_}
+use native.Mathlib.Nat.{add-mod}
+use lib.ListN.{length, length-append}
 use mathlib.Core.Bool.{Bool, true, false}
 use mathlib.Core.Path.{_≡_, refl, sym, _∙_, ap}
 use mathlib.Core.List.{List, [], _∷_, _++_, map, map-append, append-nil, List·Memᴰ·not-nil}
@@ -166,3 +168,20 @@ picked-by s p l (Either m k) e =
     let xs = expansions s (add l m) in
     let ys = expansions s (add l k) in
     ap (λ ks. pickedOf (first p ks)) e ∙ ap pickedOf (first-append p xs ys) ∙ picked-or (first p xs) (first p ys)
+
+-- ---- how many they are, modulo 2^64
+abbrev pub countedIn : Sheet → Label → ℕ
+countedIn s l = length (expansions s l) % 2 ^ 64
+
+abbrev pub countedBy : Sheet → Label → Choice → ℕ
+countedBy s l Nothing = 1
+countedBy s l (Every marks) = countedIn s (join l marks)
+countedBy s l (Either m k) = (countedIn s (add l m) + countedIn s (add l k)) % 2 ^ 64
+
+pub counted-by : (s : Sheet) (l : Label) (k : Choice) → expansions s l ≡ expandBy s l k → countedIn s l ≡ countedBy s l k
+counted-by s l Nothing e = ap (λ ks. length ks % 2 ^ 64) e
+counted-by s l (Every marks) e = ap (λ ks. length ks % 2 ^ 64) e
+counted-by s l (Either m k) e =
+    let xs = expansions s (add l m) in
+    let ys = expansions s (add l k) in
+    ap (λ ks. length ks % 2 ^ 64) e ∙ ap (λ n. n % 2 ^ 64) (length-append xs ys) ∙ add-mod (length xs) (length ys) (2 ^ 64)

@@ -6,4 +6,4 @@ pub mod plan; // a sheet laid out flat, with what each step looks up
 pub mod records; // labels as records in a lent buffer
 pub mod seeds; // what a settled label hands on and asks for
 pub mod step; // the first demand that is not met
-pub mod walks; // collecting and picking over the settled expansions of a seed
+pub mod walks; // collecting, picking and counting over the settled expansions of a seed

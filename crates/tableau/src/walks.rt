@@ -12,7 +12,7 @@ use crate::step::next_choice;
 use alc::Label;
 ghost use mathlib.Core.Path.{_≡_};
 ghost use mathlib.Core.Bool.{true, false};
-ghost use Prim.Native.Nat.{_<_, _≤_};
+ghost use Prim.Native.Nat.{_<_, _≤_, _%_, _^_};
 ghost use lib.ListN.{length};
 ghost use Rattle.alc.specs.Lists.{all, first, Distinct};
 ghost use Rattle.alc.specs.Sheet.{count};
@@ -157,6 +157,27 @@ pub fn pick(
                 Picked::Nothing => pick(plan, l.add(n), records, marks, used),
                 Picked::Found(k) => Picked::Found(k),
             }
+        }
+    }
+}
+
+// How many settled expansions a seed has, modulo 2^64.
+pub fn count_expansions(plan: &[u32; plan::SIZE], l: Label) -> u64
+    requires { ⌜ Prepared (now plan) ⌝ }
+    ensures { λ r. ⌜ r ≡ length (expansions (planSheet (now (plan .entry))) l) % 2 ^ 64 ⌝ }
+{
+    let tested = clash_test(plan, l);
+    if tested.found {
+        return 0;
+    }
+    let choice = next_choice(plan, l);
+    match choice {
+        Choice::Nothing => 1,
+        Choice::Every(marks) => count_expansions(plan, l.join(marks)),
+        Choice::Either(m, n) => {
+            let one = count_expansions(plan, l.add(m));
+            let other = count_expansions(plan, l.add(n));
+            std::num::wrapping_add_u64(one, other)
         }
     }
 }
