@@ -29,7 +29,7 @@ use Rattle.tableau.specs.Joints.{jointOf, Fit}
 use Rattle.engine.specs.Ledger.{Known, Ledger, Lent, Stable, Struck}
 use Rattle.engine.specs.Verdicts.{JudgedAll, JudgedOne, ToldAll, ToldOne, Weighed, usedBy}
 use Rattle.engine.proofs.judge.Verdict.{the-type}
-use Rattle.tableau.proofs.Chosen.{orElse, first-append}
+use Rattle.steps.proofs.Chosen.{orElse, first-append}
 use Rattle.tableau.proofs.Jointly.{with-falls, with-fits, with-is}
 use Rattle.engine.proofs.Ledgers.{struck-size, too-many-more}
 

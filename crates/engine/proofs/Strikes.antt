@@ -28,12 +28,12 @@ use Rattle.tableau.specs.declared.joint.Joint.{Joint}
 use Rattle.tableau.specs.declared.records.Grown.{Grown}
 use Rattle.tableau.specs.declared.records.Grown.the-variants.{Full, Used}
 use Rattle.sheet.specs.Form.{classOf}
-use Rattle.tableau.specs.Plan.{Prepared, entryFrom, planSheet}
+use Rattle.plan.specs.Plan.{Prepared, entryFrom, planSheet}
 use Rattle.tableau.specs.Records.{GrownTo, labelOf, recorded}
 use Rattle.tableau.specs.Walks.{pickedOf, standing}
 use Rattle.tableau.specs.Joints.{jointOf, Fit}
 use Rattle.engine.specs.Ledger.{Known, Lent, Pass, Stable, Strike, Struck, none, one, stands, strikeBy, struckAt}
-use Rattle.tableau.proofs.Lines.{lines-fit}
+use Rattle.plan.proofs.Lines.{lines-fit}
 use Rattle.tableau.proofs.Buffers.{grown-none, includeAll-length}
 use Rattle.engine.proofs.Ledgers.{grown-known, grown-longer, length-recorded, reach-grown, recorded-at, standing-fewer, struck-size}
 

@@ -1,5 +1,4 @@
 // Closing: the seeds of every settled expansion of every record, breadth first, until nothing is new or there is no room.
-use tableau::plan;
 use tableau::records::Grown;
 use tableau::records::label_of;
 use tableau::walks::collect;
@@ -7,7 +6,7 @@ ghost use mathlib.Core.Path.{_≡_};
 ghost use Prim.Native.Nat.{_≤_};
 ghost use lib.ListN.{length};
 ghost use Rattle.alc.specs.Seeds.{successors, bound, reach};
-ghost use Rattle.tableau.specs.Plan.{planSheet, Prepared};
+ghost use Rattle.plan.specs.Plan.{planSheet, Prepared};
 ghost use Rattle.tableau.specs.Records.{recorded, GrownTo};
 ghost use Rattle.engine.specs.Ledger.{Known};
 

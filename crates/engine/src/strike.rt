@@ -1,6 +1,5 @@
 // Striking out: a record is marked when none of its settled expansions has all its seeds standing, until nothing changes.
 // Only the records from `start` on are looked at: those before were settled with an earlier joint label.
-use tableau::plan;
 use tableau::records::label_of;
 use tableau::walks::Picked;
 use tableau::walks::pick;
@@ -8,7 +7,7 @@ ghost use mathlib.Core.Path.{_≡_};
 ghost use mathlib.Core.Bool.{true, false};
 ghost use Prim.Native.Nat.{_<_, _≤_};
 ghost use lib.ListN.{length};
-ghost use Rattle.tableau.specs.Plan.{planSheet, Prepared};
+ghost use Rattle.plan.specs.Plan.{planSheet, Prepared};
 ghost use Rattle.engine.specs.Ledger.{Lent, struckAt, Pass, Stable, Struck};
 
 // Strikes record i out where it has no such expansion, and says whether it did.

@@ -6,7 +6,6 @@ use sheet::Outcome;
 use sheet::Reason;
 use sheet::Sheet;
 use sheet::read_sheet;
-use tableau::plan;
 use tableau::walks::count_expansions;
 ghost use mathlib.Core.Path.{_≡_};
 ghost use mathlib.Core.Bool.{true};
@@ -17,7 +16,7 @@ ghost use Rattle.alc.specs.Sheet.{wellFormed, inLimits};
 ghost use Rattle.alc.specs.Label.{blank, add};
 ghost use Rattle.alc.specs.Seeds.{expansions};
 ghost use Rattle.sheet.specs.Form.{sheetOf};
-ghost use Rattle.tableau.specs.Plan.{planSheet, Prepared};
+ghost use Rattle.plan.specs.Plan.{planSheet, Prepared};
 
 // The settled expansions of the seed that line i holds.
 fn expansions_of(plan: &[u32; plan::SIZE], i: usize) -> u64

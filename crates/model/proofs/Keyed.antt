@@ -28,15 +28,15 @@ use Rattle.alc.specs.Theorems.Seeds.{same-true, same-refl}
 use Rattle.alc.specs.Theorems.Sorted.{Sorted, sorted-unique}
 use Rattle.alc.specs.Theorems.Words.{Earlier, earlier-once, leaving, leaving-elim, leaving-intro, leaving-sorted}
 use Rattle.model.specs.declared.edges.Edges.{Edges}
-use Rattle.tableau.specs.Plan.{planSheet, Prepared}
-use Rattle.tableau.specs.Asks.{askedOf, askedAt}
+use Rattle.plan.specs.Plan.{planSheet, Prepared}
+use Rattle.steps.specs.Asks.{askedOf, askedAt}
 use Rattle.tableau.specs.Records.{wordOf, recorded, placeFrom, foundAt}
 use Rattle.tableau.specs.Joints.{assertionAt}
 use Rattle.model.specs.Sound.{SeedsIn}
 use Rattle.model.specs.Keys.{keyOf, keysOf, insertKey, insertKeys, askKey, keysAsked, RoleBelow, keysAlong, edgeOf, edgesFrom}
-use Rattle.tableau.proofs.Members.{members, members-none}
-use Rattle.tableau.proofs.Lines.{role-count, role-is, role-in, roles-fit}
-use Rattle.tableau.proofs.Chosen.{Inside, lowest-of, rest-of, rest-members, rest-each, rest-inside}
+use Rattle.plan.proofs.Members.{members, members-none}
+use Rattle.tableau.proofs.Roles.{role-count, role-is, role-in, roles-fit}
+use Rattle.steps.proofs.Chosen.{Inside, lowest-of, rest-of, rest-members, rest-each, rest-inside}
 use Rattle.tableau.proofs.Buffers.{length-recorded, record-at, found-label, in-found, distinct-place, asking, asking-inside, asks-all}
 
 -- ---- one key more

@@ -28,7 +28,7 @@ use Rattle.alc.specs.Theorems.Bound.{length-universe, universe}
 use Rattle.alc.specs.Theorems.Sheet.{WellFormed}
 use Rattle.alc.specs.Theorems.Decides.{chosen-next}
 use Rattle.tableau.specs.Records.{wordOf, labelOf, recorded, foundAt}
-use Rattle.tableau.specs.Plan.{planSheet, Prepared}
+use Rattle.plan.specs.Plan.{planSheet, Prepared}
 use Rattle.tableau.specs.Joints.{jointOf}
 use Rattle.tableau.specs.Walks.{standing, pickedOf}
 use Rattle.engine.specs.Ledger.{Known, Lent}
@@ -36,8 +36,8 @@ use Rattle.model.specs.Sound.{Sound, SeedsIn, exchanged, Shuffled}
 use Rattle.tableau.specs.declared.joint.Joint.{Joint}
 use Rattle.tableau.specs.declared.walks.Picked.{Picked}
 use Rattle.tableau.specs.declared.walks.Picked.the-variants.{Nothing as none, Found as picked}
-use Rattle.tableau.proofs.Members.{members, members-none}
-use Rattle.tableau.proofs.Chosen.{Inside, lowest-of, rest-of, rest-each, rest-inside}
+use Rattle.plan.proofs.Members.{members, members-none}
+use Rattle.steps.proofs.Chosen.{Inside, lowest-of, rest-of, rest-each, rest-inside}
 use Rattle.tableau.proofs.Buffers.{distinct-place, found-label, in-found, seedsAt, asking-inside, seeds-asked}
 use Rattle.engine.proofs.Ledgers.{recorded-at, length-recorded, recorded-in, standing-in, stand-fine}
 use Rattle.engine.proofs.Strikes.{joint-at}

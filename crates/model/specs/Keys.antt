@@ -11,8 +11,8 @@ use Rattle.alc.specs.Settle.{Joint}
 use Rattle.alc.specs.Seeds.{Ask, asks}
 use Rattle.alc.specs.Model.{leads, asserted}
 use Rattle.model.specs.declared.edges.Edges.{Edges}
-use Rattle.tableau.specs.declared.seeds.Asked.{Asked}
-use Rattle.tableau.specs.declared.seeds.Asked.the-variants.{Nothing, Seed}
+use Rattle.steps.specs.declared.seeds.Asked.{Asked}
+use Rattle.steps.specs.declared.seeds.Asked.the-variants.{Nothing, Seed}
 use Rattle.tableau.specs.Records.{wordOf, foundAt}
 
 -- role · 8192 + to

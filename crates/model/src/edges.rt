@@ -1,18 +1,17 @@
 // The edges from one element as keys, role · 8192 + to, each once and ascending: so sorted by role and to.
 use alc::Label;
+use steps::seeds::Asked;
+use steps::seeds::asked_at;
 use tableau::joint::Joint;
-use tableau::plan;
 use tableau::records::find;
 use tableau::records::word_of;
-use tableau::seeds::Asked;
-use tableau::seeds::asked_at;
 ghost use mathlib.Core.Path.{_≡_};
 ghost use mathlib.Core.List.{[], map};
 ghost use Prim.Native.Nat.{_+_, _<_, _≤_};
 ghost use lib.ListN.{length};
 ghost use Rattle.alc.specs.Lists.{Ascending, Distinct};
 ghost use Rattle.alc.specs.Seeds.{asks};
-ghost use Rattle.tableau.specs.Plan.{planSheet, Prepared};
+ghost use Rattle.plan.specs.Plan.{planSheet, Prepared};
 ghost use Rattle.tableau.specs.Records.{recorded};
 ghost use Rattle.tableau.specs.Joints.{jointOf, Fit};
 ghost use Rattle.model.specs.Sound.{SeedsIn};

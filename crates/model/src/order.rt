@@ -1,12 +1,11 @@
 // The model's seeds in the order first asked for. The records are a set, so that they are swapped to the front, with their marks; no other memory is needed.
 use alc::Label;
+use steps::seeds::Asked;
+use steps::seeds::asked_at;
 use tableau::joint::Joint;
-use tableau::plan;
 use tableau::records::find;
 use tableau::records::label_of;
 use tableau::records::word_of;
-use tableau::seeds::Asked;
-use tableau::seeds::asked_at;
 use tableau::walks::Picked;
 use tableau::walks::pick;
 ghost use mathlib.Core.Path.{_≡_};
@@ -18,7 +17,7 @@ ghost use Rattle.alc.specs.Lists.{_∈_, all, each};
 ghost use Rattle.alc.specs.Seeds.{seeds, fine, include, includeAll};
 ghost use Rattle.alc.specs.Model.{modelSeeds, labelAt};
 ghost use Rattle.alc.specs.Model as words;
-ghost use Rattle.tableau.specs.Plan.{planSheet, Prepared};
+ghost use Rattle.plan.specs.Plan.{planSheet, Prepared};
 ghost use Rattle.tableau.specs.Records.{recorded};
 ghost use Rattle.tableau.specs.Joints.{jointOf};
 ghost use Rattle.engine.specs.Ledger.{Lent};

@@ -24,15 +24,15 @@ use Rattle.alc.specs.Theorems.Seeds.{among-in, among-true}
 use Rattle.alc.specs.Theorems.Reach.{include-step, includeAll-append}
 use Rattle.tableau.specs.declared.records.Grown.{Grown}
 use Rattle.tableau.specs.declared.records.Grown.the-variants.{Full, Used}
-use Rattle.tableau.specs.declared.seeds.Asked.{Asked}
-use Rattle.tableau.specs.declared.seeds.Asked.the-variants.{Nothing, Seed}
+use Rattle.steps.specs.declared.seeds.Asked.{Asked}
+use Rattle.steps.specs.declared.seeds.Asked.the-variants.{Nothing, Seed}
 use Rattle.tableau.specs.Records.{wordOf, labelOf, recorded, placeFrom, foundAt, GrownTo}
-use Rattle.tableau.specs.Plan.{planSheet, Prepared}
-use Rattle.tableau.specs.Asks.{askedOf, askedAt}
+use Rattle.plan.specs.Plan.{planSheet, Prepared}
+use Rattle.steps.specs.Asks.{askedOf, askedAt}
 use Rattle.tableau.specs.Walks.{standing, seedsAsked}
-use Rattle.tableau.proofs.Lines.{lines-fit}
-use Rattle.tableau.proofs.Members.{members, members-none}
-use Rattle.tableau.proofs.Chosen.{Inside, lowest-of, rest-of, rest-each, rest-inside, each-inside, unmarked, marked-bit, marked-inside}
+use Rattle.plan.proofs.Lines.{lines-fit}
+use Rattle.plan.proofs.Members.{members, members-none}
+use Rattle.steps.proofs.Chosen.{Inside, lowest-of, rest-of, rest-each, rest-inside, each-inside, unmarked, marked-bit, marked-inside}
 
 -- ---- labels and words
 pub label-word : (l : Label) → l .holding < 4294967296 → labelOf (wordOf l) ≡ l

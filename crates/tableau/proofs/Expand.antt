@@ -18,16 +18,16 @@ use Rattle.alc.specs.Theorems.Sheet.{WellFormed, well-formed}
 use Rattle.alc.specs.Theorems.Moves.{moves-elim, addAll-has, addAll-keeps}
 use Rattle.alc.specs.Theorems.Steps.{unsetIn, unset-in-lt, DemandBelow, below-mono}
 use Rattle.alc.specs.Theorems.Settle.{settle-law, wanted-below}
-use Rattle.tableau.specs.declared.step.Choice.{Choice}
-use Rattle.tableau.specs.declared.step.Choice.the-variants.{Nothing, Every, Either}
-use Rattle.tableau.specs.Choice.{lineDemands, ruleDemands, unmet, choiceOf, choice, expandBy}
-use Rattle.tableau.specs.Plan.{planSheet, Prepared}
-use Rattle.tableau.specs.Walks.{pickedOf}
+use Rattle.steps.specs.declared.step.Choice.{Choice}
+use Rattle.steps.specs.declared.step.Choice.the-variants.{Nothing, Every, Either}
+use Rattle.steps.specs.Choice.{lineDemands, ruleDemands, unmet, choiceOf, choice}
+use Rattle.tableau.specs.Walks.{expandBy, pickedOf}
+use Rattle.plan.specs.Plan.{planSheet, Prepared}
 use Rattle.tableau.specs.declared.walks.Picked.{Picked}
 use Rattle.tableau.specs.declared.walks.Picked.the-variants.{Nothing as none, Found as picked}
-use Rattle.tableau.proofs.Lines.{lines-fit}
-use Rattle.tableau.proofs.Firsts.{Meets, settled as all-met, meets, paired-moves, first-meets}
-use Rattle.tableau.proofs.Chosen.{addAll-join, orElse, first-append}
+use Rattle.plan.proofs.Lines.{lines-fit}
+use Rattle.steps.proofs.Firsts.{Meets, settled as all-met, meets, paired-moves, first-meets}
+use Rattle.steps.proofs.Chosen.{addAll-join, orElse, first-append}
 
 -- ---- what a choice adds is of lines below n, and leaves fewer of their marks unset
 abbrev pub Fresh : ℕ → Label → Mark → Type 0

@@ -26,16 +26,17 @@ use Rattle.alc.specs.Theorems.Sheet.{WellFormed, well-formed}
 use Rattle.alc.specs.Theorems.Moves.{label-in, Listed, moves-elim, addAll-has}
 use Rattle.alc.specs.Theorems.Steps.{unsetAll, DemandBelow, below-mono}
 use Rattle.alc.specs.Theorems.Settle.{Fits, Less, meet-less, wanted-below, who-below, settle-law}
-use Rattle.tableau.specs.declared.step.Choice.{Choice}
+use Rattle.steps.specs.declared.step.Choice.{Choice}
 use Rattle.tableau.specs.declared.joint.Joint.{Joint}
 use Rattle.tableau.specs.declared.joint.Next.{Next}
 use Rattle.tableau.specs.declared.joint.Next.the-variants.{Clashed, Settled, Onward, Split}
-use Rattle.tableau.specs.Plan.{planSheet, Prepared}
-use Rattle.tableau.specs.Choice.{choiceOf, choice}
+use Rattle.plan.specs.Plan.{planSheet, Prepared}
+use Rattle.steps.specs.Choice.{choiceOf, choice}
 use Rattle.tableau.specs.Joints.{jointOf, Fit, ownStep, assertionAt, metBy, stepOf, nextOf, settleBy}
-use Rattle.tableau.proofs.Lines.{lines-fit, roles-are, role-in, role-count, roles-fit}
-use Rattle.tableau.proofs.Chosen.{addAll-join, orElse, first-append}
-use Rattle.tableau.proofs.Firsts.{or-found, Meets, settled, meets, paired-moves, first-meets}
+use Rattle.plan.proofs.Lines.{lines-fit}
+use Rattle.tableau.proofs.Roles.{roles-are, role-in, role-count, roles-fit}
+use Rattle.steps.proofs.Chosen.{addAll-join, orElse, first-append}
+use Rattle.steps.proofs.Firsts.{or-found, Meets, settled, meets, paired-moves, first-meets}
 
 -- ---- steps
 module _ (s : Sheet) (J : theory.Joint) where

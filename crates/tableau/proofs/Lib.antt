@@ -1,8 +1,4 @@
-pub mod Members
-pub mod Lines
-pub mod Chosen
-pub mod Firsts
 pub mod Buffers
 pub mod Expand
 pub mod Jointly
-pub mod Laid
+pub mod Roles

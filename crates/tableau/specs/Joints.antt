@@ -10,9 +10,9 @@ use Rattle.alc.specs.Label.{blank, add, addAll, join, Demand, every, either}
 use Rattle.alc.specs.Settle as theory
 use Rattle.alc.specs.Settle.{Move, who, wanted, adds, moves, closes, label, settle}
 use Rattle.sheet.specs.Form.{roleOf}
-use Rattle.tableau.specs.Plan.{entryFrom}
-use Rattle.tableau.specs.declared.step.Choice.{Choice}
-use Rattle.tableau.specs.declared.step.Choice.the-variants.{Nothing, Every, Either}
+use Rattle.plan.specs.Plan.{entryFrom}
+use Rattle.steps.specs.declared.step.Choice.{Choice}
+use Rattle.steps.specs.declared.step.Choice.the-variants.{Nothing, Every, Either}
 use Rattle.tableau.specs.declared.joint.Joint.{Joint}
 use Rattle.tableau.specs.declared.joint.Next.{Next}
 use Rattle.tableau.specs.declared.joint.Next.the-variants.{Clashed, Settled, Onward, Split}

@@ -1,11 +1,10 @@
 // A joint label, one label for each individual, and its next step: the lowest individual with a step of its own, else the first role assertion that adds a mark.
-use crate::clash::clash_test;
-use crate::plan;
-use crate::seeds::pushed_along;
-use crate::step::Choice;
-use crate::step::next_choice;
 use alc::Label;
 use alc::Mark;
+use steps::clash::clash_test;
+use steps::seeds::pushed_along;
+use steps::step::Choice;
+use steps::step::next_choice;
 ghost use mathlib.Core.Path.{_≡_};
 ghost use mathlib.Core.Bool.{false};
 ghost use mathlib.Core.List.{[], _∷_, map};
@@ -14,7 +13,7 @@ ghost use lib.ListN.{length, set};
 ghost use Rattle.alc.specs.Lists.{first, each, upTo};
 ghost use Rattle.alc.specs.Sheet.{Sheet};
 ghost use Rattle.alc.specs.Settle.{movesOf, push, adds, closes};
-ghost use Rattle.tableau.specs.Plan.{planSheet, Prepared};
+ghost use Rattle.plan.specs.Plan.{planSheet, Prepared};
 ghost use Rattle.tableau.specs.Joints.{jointOf, Fit, ownStep, assertionAt, stepOf, nextOf};
 
 // The labels of up to eight individuals.

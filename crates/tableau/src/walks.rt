@@ -1,15 +1,14 @@
 // The walks over the settled expansions of a seed. Each calls itself on each branch's label, first branch first; the marks still unset fall at every call.
-use crate::clash::clash_test;
-use crate::plan;
 use crate::records::Grown;
 use crate::records::find;
 use crate::records::include_label;
 use crate::records::word_of;
-use crate::seeds::Asked;
-use crate::seeds::asked_at;
-use crate::step::Choice;
-use crate::step::next_choice;
 use alc::Label;
+use steps::clash::clash_test;
+use steps::seeds::Asked;
+use steps::seeds::asked_at;
+use steps::step::Choice;
+use steps::step::next_choice;
 ghost use mathlib.Core.Path.{_≡_};
 ghost use mathlib.Core.Bool.{true, false};
 ghost use Prim.Native.Nat.{_<_, _≤_, _%_, _^_};
@@ -18,7 +17,7 @@ ghost use Rattle.alc.specs.Lists.{all, first, Distinct};
 ghost use Rattle.alc.specs.Sheet.{count};
 ghost use Rattle.alc.specs.Label.{clashes};
 ghost use Rattle.alc.specs.Seeds.{seeds, expansions, successors, includeAll, among, served};
-ghost use Rattle.tableau.specs.Plan.{planSheet, Prepared};
+ghost use Rattle.plan.specs.Plan.{planSheet, Prepared};
 ghost use Rattle.tableau.specs.Records.{recorded, GrownTo};
 ghost use Rattle.tableau.specs.Walks.{standing, seedsAsked, pickedOf};
 

@@ -14,7 +14,7 @@ use Rattle.sheet.specs.declared.Outcome.{Outcome}
 use Rattle.sheet.specs.Form.{sheetOf}
 use Rattle.sheet.specs.Promise.{outcomeRead}
 use Rattle.sheet.proofs.read_sheet.Reads as read-sheet-reads
-use Rattle.tableau.proofs.plan.prepare.Reads as prepare-reads
+use Rattle.plan.proofs.prepare.Reads as prepare-reads
 use Rattle.engine.proofs.judge.clear_marks.Reads as clear-marks-reads
 use Rattle.desk.specs.Desk.{lentBadly}
 use Rattle.desk.proofs.Satisfying.{kept-lent-badly, kept-refused, kept-decided}

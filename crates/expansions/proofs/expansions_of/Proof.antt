@@ -5,7 +5,7 @@ use lib.ListN.{length}
 use Rattle.alc.specs.declared.Mark.the-variants.{Holds as holds}
 use Rattle.alc.specs.Label.{add}
 use Rattle.alc.specs.Seeds.{expansions}
-use Rattle.tableau.specs.Plan.{planSheet}
+use Rattle.plan.specs.Plan.{planSheet}
 use borrow.Author.Needs.{needs}
 use Rattle.expansions.proofs.expansions_of.Statement.{statement}
 use Rattle.expansions.proofs.expansions_of.Tie as tie

@@ -2,7 +2,7 @@
 use Prim.Native.Nat.{_-_, _≤_}
 use native.Mathlib.Omega.{arith}
 use borrow.Author.Needs.{needs}
-use Rattle.tableau.proofs.Lines.{line-count, lines-fit}
+use Rattle.plan.proofs.Lines.{line-count, lines-fit}
 use Rattle.expansions.proofs.print_lines.Statement.{statement}
 use Rattle.expansions.proofs.print_lines.Tie as tie
 

@@ -5,7 +5,7 @@ use native.Mathlib.Omega.{arith}
 use Rattle.alc.specs.Sheet.{Sheet}
 use Rattle.alc.specs.Judge.{start}
 use Rattle.alc.specs.Theorems.Sheet.{well-formed}
-use Rattle.tableau.specs.Plan.{planSheet}
+use Rattle.plan.specs.Plan.{planSheet}
 use Rattle.tableau.specs.Joints.{jointOf}
 use Rattle.engine.proofs.Ledgers.{known-none, ledger-none}
 use Rattle.desk.proofs.Deciding.{answer-full, answer-model, answer-none, found-asked, found-few, found-fine, found-sound}

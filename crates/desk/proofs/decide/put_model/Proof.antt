@@ -8,7 +8,7 @@ use Rattle.alc.specs.Sheet.{Sheet}
 use Rattle.alc.specs.Settle as theory
 use Rattle.alc.specs.Model.{modelWords}
 use Rattle.alc.specs.Theorems.Sheet.{well-formed}
-use Rattle.tableau.specs.Plan.{planSheet}
+use Rattle.plan.specs.Plan.{planSheet}
 use Rattle.tableau.specs.Joints.{jointOf}
 use Rattle.model.specs.Laid.{Ready}
 use Rattle.tableau.proofs.Jointly.{joint-length}

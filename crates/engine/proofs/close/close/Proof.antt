@@ -5,7 +5,7 @@ use lib.ListN.{length, getD}
 use native.Mathlib.Omega.{arith}
 use borrow.Author.Needs.{needs}
 use Rattle.alc.specs.Seeds.{bound, includeAll, reach, successors}
-use Rattle.tableau.specs.Plan.{planSheet}
+use Rattle.plan.specs.Plan.{planSheet}
 use Rattle.tableau.specs.Records.{GrownTo, labelOf, recorded}
 use Rattle.engine.proofs.Strikes.{Closing, closing-start, closed, close-on, close-full}
 use Rattle.engine.proofs.close.close.Statement.{statement}

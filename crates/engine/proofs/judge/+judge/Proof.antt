@@ -1,4 +1,4 @@
--- `tableau::judge::judge` meets its contract. Assumes nothing.
+-- `engine::judge::judge` meets its contract. Assumes nothing.
 use mathlib.Core.Path.{_≡_, refl, sym, _∙_, ap₂}
 use mathlib.Core.List.{List, _++_}
 use lib.ListN.{length, getD, set}
@@ -12,7 +12,7 @@ use Rattle.alc.specs.Theorems.Steps.{unsetAll}
 use Rattle.tableau.specs.declared.joint.Joint.{Joint}
 use Rattle.tableau.specs.declared.joint.Next.{Next}
 use Rattle.tableau.specs.declared.joint.Next.the-variants.{Clashed, Settled, Onward, Split}
-use Rattle.tableau.specs.Plan.{planSheet, Prepared}
+use Rattle.plan.specs.Plan.{planSheet, Prepared}
 use Rattle.tableau.specs.Joints.{jointOf, Fit, settleBy}
 use Rattle.tableau.proofs.Jointly.{Fresh, FreshBy, joint-length, settled-calm, stepped-fresh, stepped-settles}
 use Rattle.engine.proofs.Judging.{Branch, branch, first-ready, judged-both, judged-clashed, judged-first, judged-onward, judged-settled, not-going}

@@ -6,7 +6,7 @@ use native.Mathlib.Omega.{arith}
 use borrow.Author.Needs.{needs}
 use Rattle.alc.specs.Lists.{each}
 use Rattle.alc.specs.Seeds.{includeAll, seeds}
-use Rattle.tableau.specs.Plan.{planSheet}
+use Rattle.plan.specs.Plan.{planSheet}
 use Rattle.tableau.specs.Records.{recorded}
 use Rattle.tableau.specs.Joints.{jointOf}
 use Rattle.engine.proofs.Strikes.{joint-at, Gathering, gathered, gather-on, gather-full}

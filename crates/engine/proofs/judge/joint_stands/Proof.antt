@@ -9,7 +9,7 @@ use borrow.Author.Tests.{not-true, not-false}
 use Rattle.alc.specs.Lists.{all}
 use Rattle.alc.specs.declared.Label.{Label}
 use Rattle.alc.specs.Seeds.{served}
-use Rattle.tableau.specs.Plan.{planSheet}
+use Rattle.plan.specs.Plan.{planSheet}
 use Rattle.tableau.specs.Walks.{standing}
 use Rattle.tableau.specs.Joints.{jointOf}
 use Rattle.engine.proofs.Strikes.{joint-at, all-end, all-turn}

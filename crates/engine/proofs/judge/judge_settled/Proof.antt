@@ -1,4 +1,4 @@
--- `tableau::judge::judge_settled` meets its contract. Assumes nothing.
+-- `engine::judge::judge_settled` meets its contract. Assumes nothing.
 use Prim.Native.Nat.{ℕ, _≤_}
 use mathlib.Core.Path.{_≡_, subst}
 use mathlib.Core.Bool.{false}
@@ -12,7 +12,7 @@ use Rattle.alc.specs.Seeds.{bound, reach, successors}
 use Rattle.alc.specs.Theorems.Sheet.{well-formed}
 use Rattle.tableau.specs.declared.records.Grown.{Grown}
 use Rattle.tableau.specs.declared.records.Grown.the-variants.{Full, Used}
-use Rattle.tableau.specs.Plan.{planSheet}
+use Rattle.plan.specs.Plan.{planSheet}
 use Rattle.tableau.specs.Records.{recorded, GrownTo}
 use Rattle.tableau.specs.Joints.{jointOf}
 use Rattle.engine.specs.Ledger.{Known, Lent}

@@ -1,4 +1,4 @@
--- `tableau::judge::weigh` meets its contract. Assumes nothing.
+-- `engine::judge::weigh` meets its contract. Assumes nothing.
 use mathlib.Core.Path.{sym, _∙_}
 use mathlib.Core.Bool.{true, false}
 use Rattle.engine.proofs.Judging.{cleared-lent, struck-lent, weighed}

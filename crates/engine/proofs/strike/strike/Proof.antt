@@ -4,7 +4,7 @@ use mathlib.Core.Bool.{true, false, cond}
 use mathlib.Core.Path.{_≡_, refl}
 use lib.ListN.{length}
 use Rattle.alc.specs.Theorems.Lists.{clashing}
-use Rattle.tableau.specs.Plan.{planSheet}
+use Rattle.plan.specs.Plan.{planSheet}
 use Rattle.tableau.specs.Walks.{standing}
 use Rattle.engine.specs.Ledger.{Struck, none, Stable}
 use Rattle.engine.proofs.Ledgers.{struck-size}

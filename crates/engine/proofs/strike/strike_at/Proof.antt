@@ -7,7 +7,7 @@ use Rattle.alc.specs.Lists.{first}
 use Rattle.alc.specs.Sheet.{Sheet}
 use Rattle.alc.specs.declared.Label.{Label}
 use Rattle.alc.specs.Seeds.{served, expansions}
-use Rattle.tableau.specs.Plan.{planSheet}
+use Rattle.plan.specs.Plan.{planSheet}
 use Rattle.tableau.specs.Records.{labelOf}
 use Rattle.tableau.specs.Walks.{pickedOf, standing}
 use Rattle.engine.specs.Ledger.{struckAt}

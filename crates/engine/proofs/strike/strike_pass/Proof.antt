@@ -3,7 +3,7 @@ use Prim.Native.Nat.{_-_}
 use mathlib.Core.Bool.{Bool, true, false, _||_}
 use mathlib.Core.Path.{_≡_, sym, _∙_}
 use native.Mathlib.Omega.{arith}
-use Rattle.tableau.specs.Plan.{planSheet}
+use Rattle.plan.specs.Plan.{planSheet}
 use Rattle.engine.proofs.Ledgers.{struck-size}
 use Rattle.engine.proofs.Strikes.{Striking, striking, strike-on, passed, lent-still}
 use Rattle.engine.proofs.strike.strike_pass.Statement.{statement}

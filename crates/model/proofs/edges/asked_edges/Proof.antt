@@ -4,10 +4,10 @@ use mathlib.Core.Path.{sym, _∙_, ap, subst}
 use mathlib.Core.List.{List}
 use native.Mathlib.Omega.{arith}
 use borrow.Author.Needs.{needs}
-use Rattle.tableau.specs.declared.seeds.Asked.{Asked}
-use Rattle.tableau.specs.Plan.{planSheet}
+use Rattle.steps.specs.declared.seeds.Asked.{Asked}
+use Rattle.plan.specs.Plan.{planSheet}
 use Rattle.model.specs.Keys.{keysOf, insertKeys, keysAsked, RoleBelow}
-use Rattle.tableau.proofs.Chosen.{lowest-of, low-line, low-small, low-le, rest-less}
+use Rattle.steps.proofs.Chosen.{lowest-of, low-line, low-small, low-le, rest-less}
 use Rattle.model.proofs.Keyed.{Asking, asking-start, asked-role, some-room, ask-on, asked-all}
 use Rattle.model.proofs.edges.asked_edges.Statement.{statement}
 use Rattle.model.proofs.edges.asked_edges.Tie as tie
@@ -15,7 +15,7 @@ use Rattle.model.proofs.edges.asked_edges.Reads as reads
 use Rattle.model.proofs.edges.asked_edges.Lts as lts
 use Rattle.model.proofs.edges.no_edges.Reads as no-edges-reads
 use Rattle.model.proofs.edges.with_asked.Reads as with-asked-reads
-use Rattle.tableau.proofs.seeds.asked_at.Reads as asked-at-reads
+use Rattle.steps.proofs.seeds.asked_at.Reads as asked-at-reads
 
 abbrev Inv-loop : tie.InvT-loop
 Inv-loop plan l records seeds first edges₀ left₀ edges left = Asking plan l first seeds records edges left

@@ -9,10 +9,10 @@ use native.Mathlib.Omega.{arith}
 use borrow.Author.Needs.{needs}
 use Rattle.alc.specs.Theorems.Sheet.{well-formed}
 use Rattle.model.specs.declared.edges.Edges.{Edges}
-use Rattle.tableau.specs.Plan.{planSheet}
+use Rattle.plan.specs.Plan.{planSheet}
 use Rattle.tableau.specs.Joints.{jointOf}
 use Rattle.model.specs.Keys.{edgeOf}
-use Rattle.tableau.proofs.Lines.{roles-fit}
+use Rattle.tableau.proofs.Roles.{roles-fit}
 use Rattle.model.proofs.Keyed.{askedKeys, Along, along-start, along-other, along-one, along-end, Small, role-small, edges-are}
 use Rattle.model.proofs.edges.edges_of.Statement.{statement}
 use Rattle.model.proofs.edges.edges_of.Tie as tie

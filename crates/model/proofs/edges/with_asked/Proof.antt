@@ -4,7 +4,7 @@ use mathlib.Core.Path.{_≡_, sym, _∙_, ap, subst}
 use native.Mathlib.Omega.{arith}
 use borrow.Author.Needs.{needs}
 use Rattle.alc.specs.declared.Label.{Label}
-use Rattle.tableau.specs.declared.seeds.Asked.{Asked}
+use Rattle.steps.specs.declared.seeds.Asked.{Asked}
 use Rattle.tableau.specs.Records.{wordOf, foundAt}
 use Rattle.model.specs.Keys.{keyOf, keysOf, insertKey, insertKeys, keysAsked, RoleBelow}
 use Rattle.model.proofs.Keyed.{found-within}

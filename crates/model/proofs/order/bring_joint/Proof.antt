@@ -9,7 +9,7 @@ use Rattle.alc.specs.declared.Label.{Label}
 use Rattle.alc.specs.Seeds.{includeAll, seeds}
 use Rattle.alc.specs.Theorems.Moves.{label-in}
 use Rattle.alc.specs.Settle.{label}
-use Rattle.tableau.specs.Plan.{planSheet}
+use Rattle.plan.specs.Plan.{planSheet}
 use Rattle.tableau.specs.Records.{recorded}
 use Rattle.tableau.specs.Joints.{jointOf}
 use Rattle.model.specs.Sound.{SeedsIn}

@@ -7,11 +7,11 @@ use borrow.Author.Needs.{needs}
 use Rattle.alc.specs.Lists.{_∈_}
 use Rattle.alc.specs.Seeds.{includeAll}
 use Rattle.alc.specs.Theorems.Lists.{here}
-use Rattle.tableau.specs.Plan.{planSheet}
+use Rattle.plan.specs.Plan.{planSheet}
 use Rattle.tableau.specs.Records.{recorded}
 use Rattle.tableau.specs.Walks.{seedsAsked}
-use Rattle.tableau.specs.declared.seeds.Asked.{Asked}
-use Rattle.tableau.proofs.Chosen.{lowest-of, low-line, low-small, low-le, rest-less}
+use Rattle.steps.specs.declared.seeds.Asked.{Asked}
+use Rattle.steps.proofs.Chosen.{lowest-of, low-line, low-small, low-le, rest-less}
 use Rattle.tableau.proofs.Buffers.{seedsAt}
 use Rattle.model.proofs.Orders.{Brought, brought-as, BringingSeeds, seeds-start, seed-in, seeds-on, seeds-done, shuffled-none}
 use Rattle.model.proofs.order.bring_seeds.Statement.{statement}
@@ -19,7 +19,7 @@ use Rattle.model.proofs.order.bring_seeds.Tie as tie
 use Rattle.model.proofs.order.bring_seeds.Reads as reads
 use Rattle.model.proofs.order.bring_seeds.Lts as lts
 use Rattle.model.proofs.order.bring.Reads as bring-reads
-use Rattle.tableau.proofs.seeds.asked_at.Reads as asked-at-reads
+use Rattle.steps.proofs.seeds.asked_at.Reads as asked-at-reads
 
 abbrev Inv-loop : tie.InvT-loop
 Inv-loop plan l records₀ marks₀ used start front₀ left₀ records marks front left = BringingSeeds plan l used start records₀ marks₀ front records marks left

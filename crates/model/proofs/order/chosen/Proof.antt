@@ -2,7 +2,7 @@
 use mathlib.Core.Path.{_≡_, sym, _∙_, ap}
 use borrow.Author.Needs.{needs}
 use Rattle.alc.specs.Model.{chosen}
-use Rattle.tableau.specs.Plan.{planSheet}
+use Rattle.plan.specs.Plan.{planSheet}
 use Rattle.model.proofs.Orders.{labelPicked, picked-chosen}
 use Rattle.model.proofs.order.chosen.Statement.{statement}
 use Rattle.model.proofs.order.chosen.Tie as tie

@@ -11,7 +11,7 @@ use Rattle.alc.specs.declared.Label.{Label}
 use Rattle.alc.specs.Seeds.{includeAll, seeds}
 use Rattle.alc.specs.Model.{chosen}
 use Rattle.alc.specs.Theorems.Sheet.{well-formed}
-use Rattle.tableau.specs.Plan.{planSheet}
+use Rattle.plan.specs.Plan.{planSheet}
 use Rattle.tableau.specs.Records.{labelOf, recorded}
 use Rattle.tableau.specs.Joints.{jointOf}
 use Rattle.model.specs.Sound.{Sound, SeedsIn}

@@ -5,7 +5,7 @@ use mathlib.Core.List.{List}
 use native.Mathlib.Omega.{arith}
 use lib.ListN.{length}
 use Rattle.alc.specs.Lists.{each, upTo}
-use Rattle.tableau.specs.Plan.{planSheet}
+use Rattle.plan.specs.Plan.{planSheet}
 use Rattle.tableau.specs.Records.{recorded}
 use Rattle.tableau.specs.Joints.{jointOf}
 use Rattle.model.proofs.Worded.{length-more, seeds-length, seeds-distinct, element-edges, element-seeds, edgesAt, counted-all, row-count}

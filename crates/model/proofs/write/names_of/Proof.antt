@@ -3,8 +3,8 @@ use Prim.Native.Nat.{_-_, _≤_, _<_}
 use mathlib.Core.Logic.{⊎-elim}
 use native.Mathlib.Omega.{arith}
 use Rattle.alc.specs.Sheet.{count}
-use Rattle.tableau.specs.Plan.{planSheet}
-use Rattle.tableau.proofs.Lines.{line-count, lines-fit, bit-set, bit-clear}
+use Rattle.plan.specs.Plan.{planSheet}
+use Rattle.plan.proofs.Lines.{line-count, lines-fit, bit-set, bit-clear}
 use Rattle.model.proofs.Worded.{Naming, naming, all-named, skip-unset, skip-other, name-put, name-inside}
 use Rattle.model.proofs.write.names_of.Statement.{statement}
 use Rattle.model.proofs.write.names_of.Tie as tie

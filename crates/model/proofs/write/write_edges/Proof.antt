@@ -7,7 +7,7 @@ use lib.ListN.{length}
 use Rattle.alc.specs.Settle as theory
 use Rattle.alc.specs.declared.Label.{Label}
 use Rattle.alc.specs.Sheet.{Sheet}
-use Rattle.tableau.specs.Plan.{planSheet}
+use Rattle.plan.specs.Plan.{planSheet}
 use Rattle.tableau.specs.Records.{recorded}
 use Rattle.tableau.specs.Joints.{jointOf}
 use Rattle.model.specs.Keys.{keysOf, edgeOf}

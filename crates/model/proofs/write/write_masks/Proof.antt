@@ -3,7 +3,7 @@ use Prim.Native.Nat.{_+_, _-_, _≤_, _<_}
 use mathlib.Core.Path.{_≡_}
 use native.Mathlib.Omega.{arith}
 use lib.ListN.{length}
-use Rattle.tableau.specs.Plan.{planSheet}
+use Rattle.plan.specs.Plan.{planSheet}
 use Rattle.tableau.specs.Records.{recorded}
 use Rattle.tableau.specs.Joints.{jointOf}
 use Rattle.model.proofs.Worded.{Laying, laying, seeds-length, element-label, maskWords, lay-mask, laid-masks}

@@ -9,7 +9,7 @@ use Rattle.alc.specs.Sheet.{Sheet}
 use Rattle.alc.specs.declared.Label.{Label}
 use Rattle.alc.specs.Settle as theory
 use Rattle.alc.specs.Model.{chosen, modelEdges}
-use Rattle.tableau.specs.Plan.{planSheet}
+use Rattle.plan.specs.Plan.{planSheet}
 use Rattle.tableau.specs.Records.{recorded}
 use Rattle.tableau.specs.Joints.{jointOf}
 use Rattle.model.specs.Laid.{masksOf, wordsOf}

@@ -5,7 +5,7 @@ use mathlib.Core.Bool.{true, false}
 use native.Mathlib.Omega.{arith}
 use lib.ListN.{length, drop}
 use Rattle.alc.specs.Settle.{closes}
-use Rattle.tableau.specs.Plan.{planSheet}
+use Rattle.plan.specs.Plan.{planSheet}
 use Rattle.tableau.specs.Joints.{jointOf}
 use Rattle.tableau.proofs.Jointly.{joint-length, closes-turn, closes-end}
 use Rattle.tableau.proofs.joint.joint_clashes.Statement.{statement}

@@ -7,10 +7,10 @@ use denote.Ref.{now}
 use borrow.Author.Needs.{needs}
 use Rattle.alc.specs.Sheet.{Sheet}
 use Rattle.alc.specs.Settle.{movesOf, adds}
-use Rattle.tableau.specs.Plan.{planSheet}
+use Rattle.plan.specs.Plan.{planSheet}
 use Rattle.tableau.specs.Joints.{jointOf, stepOf}
 use Rattle.tableau.proofs.Jointly.{stepIn, step-none, joint-length, calm-at, own-is, not-settled}
-use Rattle.tableau.proofs.Firsts.{Ranging, range-start, range-on, range-found, range-end}
+use Rattle.steps.proofs.Firsts.{Ranging, range-start, range-on, range-found, range-end}
 use Rattle.tableau.proofs.joint.lowest_step.Statement.{statement}
 use Rattle.tableau.proofs.joint.lowest_step.Tie as tie
 

@@ -7,11 +7,11 @@ use lib.ListN.{getD}
 use borrow.Author.Needs.{needs}
 use denote.Ref.{now}
 use Rattle.alc.specs.Settle.{push, adds}
-use Rattle.tableau.specs.Plan.{planSheet}
+use Rattle.plan.specs.Plan.{planSheet}
 use Rattle.tableau.specs.Joints.{jointOf, assertionAt, stepOf}
 use Rattle.tableau.proofs.Jointly.{step-none, push-each, not-settled}
-use Rattle.tableau.proofs.Firsts.{Ranging, range-start, range-on, range-found, range-end}
-use Rattle.tableau.proofs.Lines.{role-count, roles-fit}
+use Rattle.steps.proofs.Firsts.{Ranging, range-start, range-on, range-found, range-end}
+use Rattle.tableau.proofs.Roles.{role-count, roles-fit}
 use Rattle.tableau.proofs.joint.push_step.Statement.{statement}
 use Rattle.tableau.proofs.joint.push_step.Tie as tie
 

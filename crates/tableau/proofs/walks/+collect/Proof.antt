@@ -10,9 +10,9 @@ use Rattle.alc.specs.Theorems.Reach.{includeAll-append}
 use Rattle.alc.specs.Theorems.Steps.{unsetIn}
 use Rattle.tableau.specs.declared.records.Grown.{Grown}
 use Rattle.tableau.specs.declared.records.Grown.the-variants.{Full, Used}
-use Rattle.tableau.specs.declared.step.Choice.{Choice}
-use Rattle.tableau.specs.declared.step.Choice.the-variants.{Nothing, Every, Either}
-use Rattle.tableau.specs.Plan.{planSheet, Prepared}
+use Rattle.steps.specs.declared.step.Choice.{Choice}
+use Rattle.steps.specs.declared.step.Choice.the-variants.{Nothing, Every, Either}
+use Rattle.plan.specs.Plan.{planSheet, Prepared}
 use Rattle.tableau.specs.Records.{recorded, GrownTo}
 use Rattle.tableau.proofs.Buffers.{grown-none, grown-full, grown-more}
 use Rattle.tableau.proofs.Expand.{FreshBy, falls-to, clash-expands, chosen-fresh, chosen-expands, successorsBy, successors-none, successors-by}
@@ -25,8 +25,8 @@ use Rattle.tableau.proofs.walks.collect.Kinds as collect-kinds
 use Rattle.tableau.proofs.walks.+collect.Lts-collect as collect-lts
 use Rattle.alc.proofs.Label.add.Reads as add-reads
 use Rattle.alc.proofs.Label.join.Reads as join-reads
-use Rattle.tableau.proofs.clash.clash_test.Reads as clash-test-reads
-use Rattle.tableau.proofs.step.next_choice.Reads as next-choice-reads
+use Rattle.steps.proofs.clash.clash_test.Reads as clash-test-reads
+use Rattle.steps.proofs.step.next_choice.Reads as next-choice-reads
 use Rattle.tableau.proofs.walks.include_seeds.Reads as include-seeds-reads
 use Rattle.tableau.proofs.walks.+collect.{statement}
 use Rattle.tableau.proofs.walks.+collect.Tie.{close}

@@ -6,9 +6,9 @@ use Rattle.alc.specs.declared.Label.{Label}
 use Rattle.alc.specs.declared.Mark.{Mark}
 use Rattle.alc.specs.Label.{clashes}
 use Rattle.alc.specs.Theorems.Steps.{unsetIn}
-use Rattle.tableau.specs.declared.step.Choice.{Choice}
-use Rattle.tableau.specs.declared.step.Choice.the-variants.{Nothing, Every, Either}
-use Rattle.tableau.specs.Plan.{planSheet, Prepared}
+use Rattle.steps.specs.declared.step.Choice.{Choice}
+use Rattle.steps.specs.declared.step.Choice.the-variants.{Nothing, Every, Either}
+use Rattle.plan.specs.Plan.{planSheet, Prepared}
 use Rattle.tableau.proofs.Expand.{FreshBy, falls-to, clash-expands, chosen-fresh, chosen-expands, countedIn, countedBy, counted-by}
 use borrow.Author.Needs.{needs}
 use Prim.Native.Nat.{ℕ, _<_}
@@ -20,8 +20,8 @@ use Rattle.tableau.proofs.walks.+count_expansions.Lts-count_expansions 
 use Rattle.alc.proofs.Label.add.Reads as add-reads
 use Rattle.alc.proofs.Label.join.Reads as join-reads
 use Rattle.std.proofs.num.wrapping_add_u64.Reads as wrapping-add-u64-reads
-use Rattle.tableau.proofs.clash.clash_test.Reads as clash-test-reads
-use Rattle.tableau.proofs.step.next_choice.Reads as next-choice-reads
+use Rattle.steps.proofs.clash.clash_test.Reads as clash-test-reads
+use Rattle.steps.proofs.step.next_choice.Reads as next-choice-reads
 use Rattle.tableau.proofs.walks.+count_expansions.{statement}
 use Rattle.tableau.proofs.walks.+count_expansions.Tie.{close}
 

@@ -7,11 +7,11 @@ use Rattle.alc.specs.declared.Mark.{Mark}
 use Rattle.alc.specs.Label.{add, clashes}
 use Rattle.alc.specs.Seeds.{served}
 use Rattle.alc.specs.Theorems.Steps.{unsetIn}
-use Rattle.tableau.specs.declared.step.Choice.{Choice}
-use Rattle.tableau.specs.declared.step.Choice.the-variants.{Nothing, Every, Either}
+use Rattle.steps.specs.declared.step.Choice.{Choice}
+use Rattle.steps.specs.declared.step.Choice.the-variants.{Nothing, Every, Either}
 use Rattle.tableau.specs.declared.walks.Picked.{Picked}
 use Rattle.tableau.specs.declared.walks.Picked.the-variants.{Nothing as none, Found}
-use Rattle.tableau.specs.Plan.{planSheet, Prepared}
+use Rattle.plan.specs.Plan.{planSheet, Prepared}
 use Rattle.tableau.specs.Walks.{standing}
 use Rattle.tableau.proofs.Expand.{FreshBy, falls-to, clash-expands, chosen-fresh, chosen-expands, pickedIn, pickedIf, elsePicked, pickedBy, picked-by}
 use borrow.Author.Needs.{needs}
@@ -23,8 +23,8 @@ use Rattle.tableau.proofs.walks.pick.Kinds as pick-kinds
 use Rattle.tableau.proofs.walks.+pick.Lts-pick as pick-lts
 use Rattle.alc.proofs.Label.add.Reads as add-reads
 use Rattle.alc.proofs.Label.join.Reads as join-reads
-use Rattle.tableau.proofs.clash.clash_test.Reads as clash-test-reads
-use Rattle.tableau.proofs.step.next_choice.Reads as next-choice-reads
+use Rattle.steps.proofs.clash.clash_test.Reads as clash-test-reads
+use Rattle.steps.proofs.step.next_choice.Reads as next-choice-reads
 use Rattle.tableau.proofs.walks.seeds_stand.Reads as seeds-stand-reads
 use Rattle.tableau.proofs.walks.+pick.{statement}
 use Rattle.tableau.proofs.walks.+pick.Tie.{close}
