@@ -9,7 +9,6 @@ use Rattle.alc.specs.Lists.{just, all, each}
 use Rattle.alc.specs.Sheet.{Sheet}
 use Rattle.alc.specs.declared.Label.{Label}
 use Rattle.alc.specs.Settle as theory
-use Rattle.alc.specs.Settle.{settle}
 use Rattle.alc.specs.Seeds.{Ask, asks, bound, fine, includeAll, seeds}
 use Rattle.alc.specs.Judge.{at-once, considered, firstFine, settledJoints, start}
 use Rattle.alc.specs.Model as model
@@ -23,11 +22,11 @@ use Rattle.tableau.specs.declared.joint.Joint.{Joint}
 use Rattle.tableau.specs.Joints.{jointOf, Fit}
 use Rattle.tableau.specs.Records.{recorded}
 use Rattle.engine.specs.declared.judge.Judged.{Judged}
-use Rattle.engine.specs.declared.judge.Verdict.{Verdict}
 use Rattle.engine.specs.declared.judge.Verdict.the-variants.{Full, Going, Fine}
 use Rattle.engine.specs.Ledger.{Known}
-use Rattle.engine.specs.Verdicts.{JudgedAll, ToldAll, usedBy}
-use Rattle.engine.proofs.Ledgers.{ledger-needed, ledger-none, reached-closed, too-many-needed}
+use Rattle.engine.specs.Verdicts.{JudgedAll, usedBy}
+use Rattle.engine.proofs.Ledgers.{reached-closed}
+use Rattle.engine.proofs.Told.{found-enough, found-first, lent-enough, needs-more, none-enough, none-fine, told-by}
 use Rattle.model.specs.Sound.{AllSeedsIn, Complete, Shuffled, Sound}
 use Rattle.model.specs.Laid.{Ready, wordsOf}
 use Rattle.model.proofs.Orders.{sound-shuffled}
@@ -90,42 +89,26 @@ module _ {before : List ℕ} {a : model.Answer} where
   decided-full e = rw e (record { ten = λ q. absurd (omega arith); twelve = λ q. absurd (omega arith); thirteen = λ _. (refl, refl) })
 
 module _ {s : Sheet} {J : theory.Joint} {before marks : List ℕ} {r : Judged} {after marks′ : List ℕ} (judged : JudgedAll s J 0 before marks r after marks′) (begin : J ≡ start s []) where
-  told-by : (v : Verdict) → r .verdict ≡ v → ToldAll s [] (settledJoints s []) r v after marks′
-  unfolding settledJoints
-  told-by v e =
-      let now : ToldAll s [] (settle s (s .roles) J) r v after marks′ =
-      subst (λ (w : Verdict). ToldAll s [] (settle s (s .roles) J) r w after marks′) e (judged .told [] (ledger-none s before marks)) in
-      subst (λ (K : theory.Joint). ToldAll s [] (settle s (s .roles) K) r v after marks′) begin now
-
   -- there is no room
   pub answer-full : (out : List ℕ) → r .verdict ≡ Full → Decided (satisfyAnswer s (length before)) out OutOfSpace out
-  answer-full out e = decided-full (reply-short s (length before) (omega (arith, too-many-needed s [] (length after) (told-by Full e), judged .kept .size)))
+  answer-full out e = decided-full (reply-short s (length before) (needs-more judged [] begin e))
 
-  -- so many records were enough
   module _ (n : ℕ) where
-    lent-enough : usedBy (r .verdict) ≡ just n → n ≤ length before
-    lent-enough e = omega (arith, judged .kept .lent n e .enough, judged .kept .size)
-
     -- none is fine
     pub answer-none : (out : List ℕ) → r .verdict ≡ Going n → Decided (satisfyAnswer s (length before)) out Unsatisfiable out
-    unfolding firstFine
-    answer-none out e =
-        let (ledger, none) = told-by (Going n) e in
-        decided-none
-        (reply-told s (length before) (omega (arith, ledger-needed s [] n after marks′ ledger, lent-enough (ap usedBy e))) ∙ ap (told s) none)
+    answer-none out e = decided-none (reply-told s (length before) (none-enough judged [] begin n e) ∙ ap (told s) (none-fine judged [] begin n e))
 
     -- one is fine
     module _ (e : r .verdict ≡ Fine n) where
-      found-first : firstFine s [] ≡ just (jointOf (r .joint))
-      unfolding firstFine
-      found-first = told-by (Fine n) e .1
+      found : firstFine s [] ≡ just (jointOf (r .joint))
+      found = found-first judged [] begin n e
 
       pub found-few : n ≤ length before
-      found-few = lent-enough (ap usedBy e)
+      found-few = lent-enough judged [] begin n (ap usedBy e)
 
       pub found-sound : Sound s n after marks′
       found-sound =
-          let (ledger, _) = told-by (Fine n) e in record {
+          let (ledger, _) = told-by judged [] begin (Fine n) e in record {
             lent = ledger .lent;
             known = judged .kept .known n (ap usedBy e);
             closed = reached-closed s (considered s []) (recorded n after) (ledger .reached);
@@ -134,15 +117,13 @@ module _ {s : Sheet} {J : theory.Joint} {before marks : List ℕ} {r : Judged} {
 
       pub found-asked : AllSeedsIn s (jointOf (r .joint)) (recorded n after)
       found-asked k k-in q i =
-          let (ledger, one) = told-by (Fine n) e in
+          let (ledger, one) = told-by judged [] begin (Fine n) e in
           let (a, a-in, same) = Memᴰ·of-map (λ (a : Ask). a .seed) (asks s k) i in
           ledger .reached q .1 (at-once (jointOf (r .joint)) (upToFirst-found (all (fine s)) (settledJoints s []) (jointOf (r .joint)) one) k k-in a a-in (sym same))
 
       pub found-fine : WellFormed s → all (fine s) (jointOf (r .joint)) ≡ true
-      found-fine wf = first-in s wf [] (jointOf (r .joint)) found-first .1
+      found-fine wf = first-in s wf [] (jointOf (r .joint)) found .1
 
       pub answer-model : (out : List ℕ) (a : Answer) (out′ : List ℕ) → Put (modelWords s (jointOf (r .joint))) out a out′ → Decided (satisfyAnswer s (length before)) out a out′
       answer-model out a out′ p =
-          let (ledger, _) = told-by (Fine n) e in
-          decided-put (modelWords s (jointOf (r .joint)))
-          (reply-told s (length before) (omega (arith, ledger-needed s [] n after marks′ ledger, found-few)) ∙ ap (told s) found-first) p
+          decided-put (modelWords s (jointOf (r .joint))) (reply-told s (length before) (found-enough judged [] begin n e) ∙ ap (told s) found) p

@@ -1,13 +1,14 @@
--- The replies of `satisfy`: each of its ways out keeps alc's promise.
-use Prim.Native.Nat.{ℕ, zero, suc, _-_}
+-- The replies of `satisfy`: each of its ways out keeps alc's promise. What holds of any reply stands first; `causes` uses it too.
+use Prim.Native.Nat.{ℕ, zero, suc, _-_, _≤_, _<_}
 use mathlib.Core.Bool.{true, false}
-use mathlib.Core.Path.{_≡_, sym, _∙_, ap}
+use mathlib.Core.Path.{_≡_, refl, sym, _∙_, ap}
 use mathlib.Core.Logic.{⊎-elim}
 use mathlib.Core.List.{List, [], _++_}
 use lib.ListN.{length, drop, replicate, length-replicate}
 use native.Mathlib.Omega.{arith}
-use Rattle.alc.specs.Sheet as theory
+use Rattle.alc.specs.Sheet.{Sheet}
 use Rattle.alc.specs.Bytes.{Read, refused, taken, readSheet}
+use Rattle.alc.specs.Model as theory
 use Rattle.alc.specs.Model.{satisfyAnswer}
 use Rattle.alc.specs.Replies.{Reply, untouched, finished, cleared, checked, satisfyRead, satisfyReply}
 use Rattle.alc.specs.Promises.{SatisfyPromise}
@@ -18,57 +19,71 @@ use Rattle.desk.specs.declared.Answer.the-variants.{Model, LongModel, Un
 use Rattle.desk.specs.Desk.{answerNumber, answerValue, replyOf, lentBadly, Decided}
 
 -- zeros behind the first k of n zeros
-drop-replicate : {A : Type 0} (k n : ℕ) (a : A) → drop k (replicate n a) ≡ replicate (n - k) a
+pub drop-replicate : {A : Type 0} (k n : ℕ) (a : A) → drop k (replicate n a) ≡ replicate (n - k) a
 drop-replicate zero n a = let all : n ≡ n - 0 = omega arith in ap (λ (m : ℕ). replicate m a) all
 drop-replicate (suc k) zero a = let none : 0 ≡ 0 - suc k = omega arith in ap (λ (m : ℕ). replicate m a) none
 drop-replicate (suc k) (suc n) a = let less : n - k ≡ suc n - suc k = omega arith in drop-replicate k n a ∙ ap (λ (m : ℕ). replicate m a) less
 
-module _ (rs ms os : List ℕ) (s : theory.Sheet) (r : Answer) (out : List ℕ) where
-  abbrev reply : Reply
-  reply = replyOf r (replicate (length rs) 0) (replicate (length ms) 0) out
+-- ---- of any reply
+module _ (rs ms os : List ℕ) where
+  -- what was lent is tested first
+  pub checked-badly : lentBadly (length rs) (length ms) ≡ true → (o : Reply) → untouched rs ms os 7 0 ≡ checked rs ms os o
+  checked-badly e o = rw (e, checked)
 
-  -- an answer that leaves words in the model buffer and zeros behind them
-  ends : (x : Answer) (ws : List ℕ) → r ≡ x → out ≡ ws ++ replicate (length os - length ws) 0 → reply ≡ cleared rs ms os (answerNumber x) (answerValue x) ws
-  ends x ws e f i = replyOf (e i) (replicate (length rs) 0) (replicate (length ms) 0) (f i)
+  pub checked-well : lentBadly (length rs) (length ms) ≡ false → (o : Reply) → o ≡ checked rs ms os o
+  checked-well e o = rw (e, checked)
 
-  -- one that leaves it cleared
-  alone : (x : Answer) → (r ≡ x) × (out ≡ replicate (length os) 0) → reply ≡ cleared rs ms os (answerNumber x) (answerValue x) []
-  alone x (e, f) = ends x [] e (f ∙ sym (zeros-alone rs ms os 0 0))
+  module _ (r : Answer) (out : List ℕ) where
+    abbrev pub reply : Reply
+    reply = replyOf r (replicate (length rs) 0) (replicate (length ms) 0) out
 
-  -- the decision over a cleared model buffer, with records and marks cleared behind it
-  decided-reply : Decided (satisfyAnswer s (length rs)) (replicate (length os) 0) r out → reply ≡ finished rs ms os 10 (satisfyAnswer s (length rs))
-  decided-reply d =
-      let a = satisfyAnswer s (length rs) in
-      let wide : length (replicate {A = ℕ} (length os) 0) ≡ length os = length-replicate (length os) 0 in
-      elim (finished-cases rs ms os 10 a) [
-        | fits e f q ↦
-            let (x, y) = d .ten e .fits (omega arith) in
-            ends (Model (length (a .out))) (a .out) x (y ∙ ap (λ (zs : List ℕ). a .out ++ zs) (drop-replicate (length (a .out)) (length os) 0)) ∙ sym q
-        | long e f q ↦ alone (LongModel (length (a .out))) (d .ten e .long (omega arith)) ∙ sym q
-        | none e q ↦
-            let numbered : (k : ℕ) → a .number ≡ k → cleared rs ms os k 0 [] ≡ finished rs ms os 10 a =
-            λ k f. ap (λ (n : ℕ). cleared rs ms os n 0 []) (sym f) ∙ sym q in
-            ⊎-elim
-            (λ h. ⊎-elim (λ f. absurd (e f)) (λ f. alone Unsatisfiable (d .twelve f) ∙ numbered 12 f) h)
-            (λ f. alone OutOfSpace (d .thirteen f) ∙ numbered 13 f)
-            (three-only s (length rs))
-      ]
+    -- an answer that leaves words in its buffer and zeros behind them
+    pub ends : (x : Answer) (ws : List ℕ) → (r ≡ x) × (out ≡ ws ++ replicate (length os - length ws) 0) → reply ≡ cleared rs ms os (answerNumber x) (answerValue x) ws
+    ends x ws (e, f) = λ i. replyOf (e i) (replicate (length rs) 0) (replicate (length ms) 0) (f i)
+
+    -- one that leaves it cleared
+    pub alone : (x : Answer) → (r ≡ x) × (out ≡ replicate (length os) 0) → reply ≡ cleared rs ms os (answerNumber x) (answerValue x) []
+    alone x (e, f) = ends x [] (e, f ∙ sym (zeros-alone rs ms os 0 0))
+
+    -- one of this number that carries nothing
+    pub bare : (x : Answer) {k : ℕ} → k ≡ answerNumber x → answerValue x ≡ 0 → (r ≡ x) × (out ≡ replicate (length os) 0) → reply ≡ cleared rs ms os k 0 []
+    bare x e z h = alone x h ∙ λ i. cleared rs ms os (sym e i) (z i) []
+
+    -- a result where it fits its buffer, where it does not, and none
+    pub finished-reply : (n : ℕ) (a : theory.Answer) → (a .number ≡ n → length (a .out) ≤ length os → reply ≡ cleared rs ms os n (length (a .out)) (a .out))
+        → (a .number ≡ n → length os < length (a .out) → reply ≡ cleared rs ms os (suc n) (length (a .out)) [])
+        → ((a .number ≡ n → ⊥) → reply ≡ cleared rs ms os (a .number) 0 []) → reply ≡ finished rs ms os n a
+    finished-reply n a x y z = elim (finished-cases rs ms os n a) [ fits e f q ↦ x e f ∙ sym q | long e f q ↦ y e f ∙ sym q | none e q ↦ z e ∙ sym q ]
+
+-- the decision over a cleared model buffer, with records and marks cleared behind it
+decided-reply : (rs ms os : List ℕ) (s : Sheet) (r : Answer) (out : List ℕ)
+    → Decided (satisfyAnswer s (length rs)) (replicate (length os) 0) r out → reply rs ms os r out ≡ finished rs ms os 10 (satisfyAnswer s (length rs))
+decided-reply rs ms os s r out d =
+    let a = satisfyAnswer s (length rs) in
+    let wide : length (replicate {A = ℕ} (length os) 0) ≡ length os = length-replicate (length os) 0 in
+    finished-reply rs ms os r out 10 a
+    (λ e f. ends rs ms os r out (Model (length (a .out))) (a .out) (rw (← drop-replicate {A = ℕ} (length (a .out)) (length os) 0) (d .ten e .fits (omega arith))))
+    (λ e f. alone rs ms os r out (LongModel (length (a .out))) (d .ten e .long (omega arith)))
+    (λ e. ⊎-elim
+    (λ h. ⊎-elim (λ f. absurd (e f)) (λ f. bare rs ms os r out Unsatisfiable f refl (d .twelve f)) h)
+    (λ f. bare rs ms os r out OutOfSpace f refl (d .thirteen f))
+    (three-only s (length rs)))
 
 -- ---- the three ways to a reply keep the promise
 module _ (bs rs ms os : List ℕ) where
   pub kept-lent-badly : lentBadly (length rs) (length ms) ≡ true → SatisfyPromise bs rs ms os (untouched rs ms os 7 0)
   unfolding satisfyReply
-  kept-lent-badly e = satisfy-kept bs rs ms os (rw (e, checked))
+  kept-lent-badly e = satisfy-kept bs rs ms os (checked-badly rs ms os e (satisfyRead rs ms os (readSheet bs)))
 
-  satisfy-read : lentBadly (length rs) (length ms) ≡ false → {x : Read theory.Sheet} → readSheet bs ≡ x → satisfyRead rs ms os x ≡ satisfyReply bs rs ms os
+  satisfy-read : lentBadly (length rs) (length ms) ≡ false → {x : Read Sheet} → readSheet bs ≡ x → satisfyRead rs ms os x ≡ satisfyReply bs rs ms os
   unfolding satisfyReply
-  satisfy-read e f = sym (rw (e, checked) (ap (satisfyRead rs ms os) f))
+  satisfy-read e f = ap (satisfyRead rs ms os) (sym f) ∙ checked-well rs ms os e (satisfyRead rs ms os (readSheet bs))
 
   pub kept-refused : lentBadly (length rs) (length ms) ≡ false → {n p : ℕ} → readSheet bs ≡ refused n p → SatisfyPromise bs rs ms os (untouched rs ms os n p)
   kept-refused e f = satisfy-kept bs rs ms os (satisfy-read e f)
 
   -- a plan of this sheet decided over a cleared model buffer, then records and marks cleared
-  pub kept-decided : lentBadly (length rs) (length ms) ≡ false → {s t : theory.Sheet} {p : ℕ} → readSheet bs ≡ taken s p → t ≡ s
+  pub kept-decided : lentBadly (length rs) (length ms) ≡ false → {s t : Sheet} {p : ℕ} → readSheet bs ≡ taken s p → t ≡ s
       → {r : Answer} {before out rs′ ms′ : List ℕ} → before ≡ replicate (length os) 0 → Decided (satisfyAnswer t (length rs)) before r out
       → rs′ ≡ replicate (length rs) 0 → ms′ ≡ replicate (length ms) 0 → SatisfyPromise bs rs ms os (replyOf r rs′ ms′ out)
   kept-decided e {s} f same {r} {out = out} blank d zr zm =

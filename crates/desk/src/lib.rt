@@ -1,10 +1,13 @@
 // The desk: the public functions. Any bytes, any numbers, any buffers: each answer is named, and for each it is settled what every buffer holds.
 // What is right stands in alc's specs/Replies.antt and specs/Promises.antt; specs/Desk.antt says what an answer's number and value are.
 pub mod decide; // the verdict on a sheet, and its model
+pub mod query; // the cause list of a port and a class
 
 use crate::decide::clear_records;
 use crate::decide::clear_words;
 use crate::decide::decide;
+use crate::query::off_sheet;
+use crate::query::put_causes;
 use engine::judge::clear_marks;
 use plan::prepare;
 use sheet::Outcome;
@@ -12,7 +15,7 @@ use sheet::Reason;
 use sheet::read_sheet;
 ghost use mathlib.Core.Path.{_≡_};
 ghost use Prim.Native.Nat.{_<_};
-ghost use Rattle.alc.specs.Promises.{SatisfyPromise};
+ghost use Rattle.alc.specs.Promises.{SatisfyPromise, CausesPromise};
 ghost use Rattle.desk.specs.Desk.{answerNumber, answerValue, replyOf, lentBadly};
 
 // The answers of document 01, each with what it carries.
@@ -22,6 +25,8 @@ pub enum Answer {
     LongModel(usize),
     Unsatisfiable,
     OutOfSpace,
+    Causes(usize),
+    LongList(usize),
 }
 
 // Document 01's number of an answer.
@@ -34,6 +39,8 @@ pub fn answer_number(a: Answer) -> u64
         Answer::LongModel(_) => 11,
         Answer::Unsatisfiable => 12,
         Answer::OutOfSpace => 13,
+        Answer::Causes(_) => 14,
+        Answer::LongList(_) => 15,
     }
 }
 
@@ -47,6 +54,8 @@ pub fn answer_value(a: Answer) -> usize
         Answer::LongModel(words) => words,
         Answer::Unsatisfiable => 0,
         Answer::OutOfSpace => 0,
+        Answer::Causes(sets) => sets,
+        Answer::LongList(sets) => sets,
     }
 }
 
@@ -76,6 +85,38 @@ pub fn satisfy(sheet: &[u8], records: &mut [u64], marks: &mut [u8], model: &mut 
             let plan = prepare(form);
             clear_words(model);
             let answer = decide(&plan, records, marks, model);
+            clear_records(records);
+            clear_marks(marks);
+            answer
+        }
+    }
+}
+
+// Which smallest sets of rules force the port into the class? Each by number, rule i worth 2^i; or how many there are.
+pub fn causes(
+    sheet: &[u8],
+    port: u64,
+    class: u64,
+    records: &mut [u64],
+    marks: &mut [u8],
+    list: &mut [u16],
+) -> Answer
+    ensures { λ r. ⌜ CausesPromise (now (sheet .entry)) port class (now (records .entry)) (now (marks .entry)) (now (list .entry)) (replyOf r (now (records .exit)) (now (marks .exit)) (now (list .exit))) ⌝ }
+{
+    if lent_badly(records.len(), marks.len()) {
+        return Answer::Refused(Reason::LentBadly, 0);
+    }
+    let read = read_sheet(sheet);
+    let outcome = read.outcome;
+    match outcome {
+        Outcome::Refused(why, at) => Answer::Refused(why, at),
+        Outcome::Accepted => {
+            let form = read.sheet;
+            let plan = prepare(form);
+            if off_sheet(&plan, port, class) {
+                return Answer::Refused(Reason::OffSheet, 0);
+            }
+            let answer = put_causes(&plan, port as usize, class as usize, records, marks, list);
             clear_records(records);
             clear_marks(marks);
             answer

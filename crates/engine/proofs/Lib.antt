@@ -1,3 +1,4 @@
 pub mod Ledgers
 pub mod Strikes
 pub mod Judging
+pub mod Told

@@ -1,0 +1,337 @@
+-- What is known of the sets below a number, and what one more set adds: their flags, the list of the causes among them, and that there was room. Assumes nothing.
+use Prim.Native.Nat.{ℕ, zero, suc, _+_, _-_, _*_, _%_, _^_, _≤_, _<_}
+use mathlib.Core.Bool.{Bool, true, false, not as flip, _&&_}
+use mathlib.Core.Path.{_≡_, refl, sym, _∙_, ap, subst}
+use mathlib.Core.Logic.{⊎-elim}
+use mathlib.Core.List.{List, [], _∷_, _++_, append-nil}
+use native.Mathlib.Nat.{one-mul, zero-add}
+use native.Mathlib.Numerals.{add-one}
+use native.Mathlib.Omega.{arith}
+use lib.ListN.{length, getD, set, length-append}
+use lib.Seq.{take-nil, getD-set-same, getD-set-other}
+use lib.Dec.{ltb, lit<}
+use lib.Pow.{pow-mono, pow-pos, shl-exact}
+use borrow.Author.Tests.{not-true}
+use Rattle.alc.specs.Bits.{bit}
+use Rattle.alc.specs.Lists.{any, filter, from, upTo}
+use Rattle.alc.specs.Sheet.{Sheet}
+use Rattle.alc.specs.Judge.{recordsNeeded}
+use Rattle.alc.specs.Causes.{withRules, ruleSets, denial, forces, forcing, noSubsetForces, listed, causesAnswer}
+use Rattle.alc.specs.Theorems.Lists.{cases, clashing, tests-same, and-left, and-right, and-both, any-intro, any-elim, any-none, any-false, filter-length, upTo-intro, upTo-elim, length-from, map-from, same?}
+use Rattle.alc.specs.Theorems.Bits.{bit-le}
+use Rattle.alc.specs.Theorems.Sheet.{WellFormed}
+use Rattle.alc.specs.Theorems.Causes.{drop-one, forces-at, forces-mono, no-subset-elim, no-subset-intro}
+use Rattle.sets.specs.declared.force.Forced.{Forced}
+use Rattle.sets.specs.declared.force.Forced.the-variants.{Full, Yes, No}
+use Rattle.sets.specs.declared.list.Taken.{Taken}
+use Rattle.sets.specs.declared.list.Taken.the-variants as taken
+use Rattle.sets.specs.declared.list.Listed.the-variants as outcome
+use Rattle.sets.specs.Sets.{OnSheet, whether, forcedBy, Flagged, takenBy, takenOf, TakenTo, laidOver, ListedTo}
+
+-- ---- numbers
+-- the machine's one, shifted
+pub one-shifted : (i : ℕ) → i ≤ 12 → 1 * 2 ^ i % 4294967296 ≡ 2 ^ i
+one-shifted i h = shl-exact 1 i 32 (lit< tt) (omega arith) ∙ one-mul (2 ^ i)
+
+-- twelve rules have 4096 sets
+pub few-sets : (k : ℕ) → k ≤ 12 → 2 ^ k ≤ 4096
+few-sets k h = pow-mono {i = k} {j = 12} h
+
+-- ---- lists
+-- the range that is one longer has its end besides
+from-more : (a k : ℕ) → from a (suc k) ≡ from a k ++ ((a + k) ∷ [])
+from-more a zero = ap (λ (x : ℕ). x ∷ []) (omega arith)
+from-more a (suc k) = ap (λ (r : List ℕ). a ∷ r) (from-more (suc a) k ∙ ap (λ (x : ℕ). from (suc a) k ++ (x ∷ [])) (omega arith))
+
+filter-append : (p : ℕ → Bool) (l m : List ℕ) → filter p (l ++ m) ≡ filter p l ++ filter p m
+filter-append p [] m = refl
+filter-append p (y ∷ l) m =
+    ⊎-elim
+    (λ (e : p y ≡ true). rw (e, filter) (ap (λ (r : List ℕ). y ∷ r) (filter-append p l m)))
+    (λ (e : p y ≡ false). rw (e, filter) (filter-append p l m))
+    (cases (p y))
+
+-- those that pass below k + 1: those below k, and k if it passes
+module _ (p : ℕ → Bool) (k : ℕ) where
+  range-more : filter p (upTo (k + 1)) ≡ filter p (upTo k) ++ filter p (k ∷ [])
+  range-more =
+      ap (λ (j : ℕ). filter p (upTo j)) (add-one k)
+      ∙ ap (filter p) (from-more 0 k ∙ ap (λ (x : ℕ). upTo k ++ (x ∷ [])) (zero-add k))
+      ∙ filter-append p (upTo k) (k ∷ [])
+
+  passes : p k ≡ true → filter p (upTo (k + 1)) ≡ filter p (upTo k) ++ (k ∷ [])
+  passes e = range-more ∙ rw (e, filter)
+
+  fails : p k ≡ false → filter p (upTo (k + 1)) ≡ filter p (upTo k)
+  fails e = range-more ∙ rw (e, filter) (append-nil (filter p (upTo k)))
+
+-- nothing laid over a list leaves it; one more element is a store behind those before it; the length stays
+laid-none : (before : List ℕ) → laidOver [] before ≡ before
+laid-none before = ap (λ (r : List ℕ). r ++ before) (take-nil (length before))
+
+laid-more : (xs : List ℕ) (x : ℕ) (before : List ℕ) → laidOver (xs ++ (x ∷ [])) before ≡ set (laidOver xs before) (length xs) x
+laid-more [] x [] = refl
+laid-more [] x (y ∷ ys) = ap (λ (r : List ℕ). x ∷ (r ++ ys)) (take-nil (length ys))
+laid-more (z ∷ xs) x [] = refl
+laid-more (z ∷ xs) x (y ∷ ys) = ap (λ (r : List ℕ). z ∷ r) (laid-more xs x ys)
+
+laid-length : (xs before : List ℕ) → length (laidOver xs before) ≡ length before
+laid-length [] before = ap length (laid-none before)
+laid-length (x ∷ xs) [] = refl
+laid-length (x ∷ xs) (y ∷ ys) = ap suc (laid-length xs ys)
+
+-- ---- what a set turns out to be, by three tests: no proper subset of it forces, there is no room to judge it, it forces
+abbrev told : Bool → Bool → Bool → Taken
+told a b c = elim a [ true ↦ takenBy (elim b [ true ↦ Full | false ↦ whether c ]) | false ↦ taken.Other ]
+
+told-full : (a b c : Bool) → taken.Full ≡ told a b c → (a && b) ≡ true
+told-full true true c e = refl
+told-full true false true e = cc
+told-full true false false e = cc
+told-full false b c e = cc
+
+told-cause : (a b c : Bool) → taken.Cause ≡ told a b c → ((a && b) ≡ false) × ((a && c) ≡ true)
+told-cause true true c e = (cc, cc)
+told-cause true false true e = (refl, refl)
+told-cause true false false e = (cc, cc)
+told-cause false b c e = (cc, cc)
+
+told-other : (a b c : Bool) → taken.Other ≡ told a b c → ((a && b) ≡ false) × ((a && c) ≡ false)
+told-other true true c e = (cc, cc)
+told-other true false true e = (cc, cc)
+told-other true false false e = (refl, refl)
+told-other false b c e = (refl, refl)
+
+-- rule i is in the set n, which forces without it, by the flags
+abbrev pub lessForces : List Bool → ℕ → ℕ → Bool
+lessForces flags n i = bit n i && getD flags (n - 2 ^ i) false
+
+-- the same room and the same outcome by other names
+pub taken-so : {s : Sheet} {port class room room′ n : ℕ} {r r′ : Taken} {flags : List Bool} → TakenTo s port class room n r flags → room ≡ room′ → r ≡ r′ → TakenTo s port class room′ n r′ flags
+taken-so {s} {port} {class} {room} {room′} {n} {r} {r′} {flags} t p q =
+    subst (λ (k : ℕ). TakenTo s port class k n r′ flags) p (subst (λ (x : Taken). TakenTo s port class room n x flags) q t)
+
+module _ (s : Sheet) (port class : ℕ) where
+  -- no proper subset of n forces; n forces
+  abbrev pub alone : ℕ → Bool
+  alone n = noSubsetForces s (forcing s port class) n
+
+  abbrev own : ℕ → Bool
+  own n = forces (withRules s n) port class
+
+  -- ---- the parts of a set
+  module _ (wf : WellFormed s) (on : OnSheet s port class) (n : ℕ) where
+    -- where a proper subset forces, the set does
+    part-forces : alone n ≡ false → own n ≡ true
+    part-forces e =
+        ⊎-elim
+        (λ t. t)
+        (λ (f : own n ≡ false).
+        clashing (alone n)
+        (no-subset-intro s wf port class (on .0) (on .1) n (λ m m< w ne g.
+        clashing (own n) (forces-at s wf port class (on .0) (on .1) n .1 (forces-mono s port class m n w (forces-at s wf port class (on .0) (on .1) m .0 g))) f))
+        e)
+        (cases (own n))
+
+    module _ (n< : n < 2 ^ length (s .rules)) (flags : List Bool) (known : Flagged s port class n flags) where
+      -- the flag of n without a rule of its own is right
+      less-flag : (i : ℕ) → bit n i ≡ true → getD flags (n - 2 ^ i) false ≡ own (n - 2 ^ i)
+      less-flag i e = known (n - 2 ^ i) (omega (arith, bit-le n i e, pow-pos i))
+
+      -- a proper subset forces exactly if n without one of its rules does
+      pub parts-told : any (lessForces flags n) (upTo (length (s .rules))) ≡ flip (alone n)
+      parts-told = tests-same (any (lessForces flags n) (upTo (length (s .rules)))) (flip (alone n)) there- back
+        where
+          there- : any (lessForces flags n) (upTo (length (s .rules))) ≡ true → flip (alone n) ≡ true
+          there- e =
+              let (i, i-in, t) = any-elim (lessForces flags n) (upTo (length (s .rules))) e in
+              let has : bit n i ≡ true = and-left (bit n i) (getD flags (n - 2 ^ i) false) t in
+              let less : own (n - 2 ^ i) ≡ true = sym (less-flag i has) ∙ and-right (bit n i) (getD flags (n - 2 ^ i) false) t in
+              ⊎-elim
+              (λ (a : alone n ≡ true).
+              absurd (drop-one s port class n n< .0
+              (λ m m< w ne f. no-subset-elim s wf port class (on .0) (on .1) n a m m< w ne (forces-at s wf port class (on .0) (on .1) m .1 f))
+              i (upTo-elim (length (s .rules)) i i-in) has (forces-at s wf port class (on .0) (on .1) (n - 2 ^ i) .0 less)))
+              (λ a. ap flip a)
+              (cases (alone n))
+
+          back : flip (alone n) ≡ true → any (lessForces flags n) (upTo (length (s .rules))) ≡ true
+          back e =
+              ⊎-elim
+              (λ t. t)
+              (λ (none : any (lessForces flags n) (upTo (length (s .rules))) ≡ false).
+              let least = drop-one s port class n n< .1 (λ i i< has f.
+              clashing (lessForces flags n i)
+              (and-both (bit n i) (getD flags (n - 2 ^ i) false) has (less-flag i has ∙ forces-at s wf port class (on .0) (on .1) (n - 2 ^ i) .1 f))
+              (any-none (lessForces flags n) (upTo (length (s .rules))) none i (upTo-intro (length (s .rules)) i i<))) in
+              clashing (alone n)
+              (no-subset-intro s wf port class (on .0) (on .1) n (λ m m< w ne f. least m m< w ne (forces-at s wf port class (on .0) (on .1) m .0 f)))
+              (not-true (alone n) e))
+              (cases (any (lessForces flags n) (upTo (length (s .rules)))))
+
+  module _ (room : ℕ) where
+    -- the set n needs more records than there are; and it would have to be judged
+    abbrev tooMany : ℕ → Bool
+    tooMany n = ltb room (length (recordsNeeded (withRules s n) (denial port class)))
+
+    abbrev pub short : ℕ → Bool
+    short n = alone n && tooMany n
+
+    -- ---- one set
+    module _ (n : ℕ) where
+      taken-told : takenOf s port class room n ≡ told (alone n) (tooMany n) (own n)
+      unfolding takenOf forcedBy
+      taken-told = refl
+
+      -- a verdict tells whether the set forces
+      yes-forces : Yes ≡ forcedBy (withRules s n) port class room → true ≡ own n
+      unfolding forcedBy
+      yes-forces = go (tooMany n) (own n)
+        where
+          go : (b c : Bool) → Yes ≡ elim b as (λ _. Forced) [ true ↦ Full | false ↦ whether c ] → true ≡ c
+          go true c e = cc
+          go false true e = refl
+          go false false e = cc
+
+      no-forces : No ≡ forcedBy (withRules s n) port class room → false ≡ own n
+      unfolding forcedBy
+      no-forces = go (tooMany n) (own n)
+        where
+          go : (b c : Bool) → No ≡ elim b as (λ _. Forced) [ true ↦ Full | false ↦ whether c ] → false ≡ c
+          go true c e = cc
+          go false true e = cc
+          go false false e = refl
+
+      module _ (flags : List Bool) (known : Flagged s port class n flags) (fits : n < length flags) where
+        -- one more flag
+        flag-more : (b : Bool) → b ≡ own n → Flagged s port class (suc n) (set flags n b)
+        flag-more b e m m< =
+            ⊎-elim
+            (λ (q : m ≡ n). rw q (getD-set-same flags n b false fits ∙ e))
+            (λ q. getD-set-other flags n m b false q ∙ known m (omega arith))
+            (same? m n)
+
+        -- a set one of whose parts forces is not judged, and forces
+        pub take-part : WellFormed s → OnSheet s port class → alone n ≡ false → TakenTo s port class room n taken.Other (set flags n true)
+        take-part wf on e =
+            record { is = sym (taken-told ∙ ap (λ (a : Bool). told a (tooMany n) (own n)) e); flagged = λ _. flag-more true (sym (part-forces wf on n e)) }
+
+        -- any other is what its verdict says
+        module _ (e : alone n ≡ true) where
+          judged : {r : Forced} → r ≡ forcedBy (withRules s n) port class room → takenBy r ≡ takenOf s port class room n
+          unfolding takenOf
+          judged v = rw (e, takenOf) (ap takenBy v)
+
+          pub take-full : Full ≡ forcedBy (withRules s n) port class room → TakenTo s port class room n taken.Full flags
+          take-full v = record { is = judged v; flagged = λ no. absurd (no refl) }
+
+          pub take-yes : Yes ≡ forcedBy (withRules s n) port class room → TakenTo s port class room n taken.Cause (set flags n true)
+          take-yes v = record { is = judged v; flagged = λ _. flag-more true (yes-forces v) }
+
+          pub take-no : No ≡ forcedBy (withRules s n) port class room → TakenTo s port class room n taken.Other (set flags n false)
+          take-no v = record { is = judged v; flagged = λ _. flag-more false (no-forces v) }
+
+    answer-short : any short (ruleSets s) ≡ true → causesAnswer s port class room ≡ record { number = 13; out = [] }
+    unfolding causesAnswer
+    answer-short h = rw (h, causesAnswer)
+
+    answer-listed : any short (ruleSets s) ≡ false → causesAnswer s port class room ≡ record { number = 14; out = listed s port class }
+    unfolding causesAnswer
+    answer-listed h = rw (h, causesAnswer)
+
+  -- ---- the list
+  -- n is in it
+  abbrev inList : ℕ → Bool
+  inList n = alone n && getD (forcing s port class) n false
+
+  -- what it has below n
+  abbrev pub listedBelow : ℕ → List ℕ
+  listedBelow n = filter inList (upTo n)
+
+  listed-all : listedBelow (2 ^ length (s .rules)) ≡ listed s port class
+  unfolding listed
+  listed-all = refl
+
+  -- the definition's flag of n
+  flag-of : (n : ℕ) → n < 2 ^ length (s .rules) → getD (forcing s port class) n false ≡ own n
+  flag-of n h = map-from own false 0 (2 ^ length (s .rules)) n h ∙ ap own (zero-add n)
+
+-- the flags of the sets below n are right, the list has the causes among them, and none of them was short of room
+pub record Listing (s : Sheet) (port class room : ℕ) (before : List ℕ) (n : ℕ) (flags : List Bool) (found : ℕ) (list : List ℕ) : Type 0 where
+  pub bounded : n ≤ 2 ^ length (s .rules)
+  pub flagged : Flagged s port class n flags
+  pub counted : found ≡ length (listedBelow s port class n)
+  pub laid : list ≡ laidOver (listedBelow s port class n) before
+  pub roomy : (m : ℕ) → m < n → short s port class room m ≡ false
+
+module _ (s : Sheet) (port class room : ℕ) (before : List ℕ) where
+  -- at the start
+  pub none-listed : (flags : List Bool) → Listing s port class room before 0 flags 0 before
+  none-listed flags = record {
+    bounded = omega arith;
+    flagged = λ m h. absurd (omega arith);
+    counted = refl;
+    laid = sym (laid-none before);
+    roomy = λ m h. absurd (omega arith);
+  }
+
+  module _ {n found : ℕ} {flags : List Bool} {list : List ℕ} (g : Listing s port class room before n flags found list) where
+    pub list-length : length list ≡ length before
+    list-length = ap length (g .laid) ∙ laid-length (listedBelow s port class n) before
+
+    pub found-few : found ≤ n
+    found-few = omega (arith, g .counted, filter-length (inList s port class) (upTo n), length-from 0 n)
+
+    -- at the end
+    pub all-listed : 2 ^ length (s .rules) ≤ n → ListedTo s port class room before (outcome.Causes found) list
+    all-listed h =
+        let end : n ≡ 2 ^ length (s .rules) = omega (arith, g .bounded) in
+        let same : listedBelow s port class n ≡ listed s port class = ap (listedBelow s port class) end ∙ listed-all s port class in (
+          answer-listed s port class room (any-false (short s port class room) (ruleSets s) (λ m i. g .roomy m (omega (arith, upTo-elim (2 ^ length (s .rules)) m i)))),
+          g .counted ∙ ap length same,
+          g .laid ∙ ap (λ (xs : List ℕ). laidOver xs before) same,
+        )
+
+    module _ (n< : n < 2 ^ length (s .rules)) where
+      -- there was no room to judge n
+      pub was-full : {after : List Bool} → TakenTo s port class room n taken.Full after → ListedTo s port class room before outcome.Full list
+      was-full t =
+          let full : short s port class room n ≡ true = told-full (alone s port class n) (tooMany s port class room n) (own s port class n) (t .is ∙ taken-told s port class room n) in
+          (answer-short s port class room (any-intro (short s port class room) (ruleSets s) (upTo-intro (2 ^ length (s .rules)) n n<) full), list-length)
+
+      -- there was room for n too
+      roomy-more : short s port class room n ≡ false → (m : ℕ) → m < n + 1 → short s port class room m ≡ false
+      roomy-more e m h = ⊎-elim (λ (q : m ≡ n). rw q e) (λ q. g .roomy m (omega arith)) (same? m n)
+
+      in-list : (b : Bool) → (alone s port class n && own s port class n) ≡ b → inList s port class n ≡ b
+      in-list b e = ap (λ (f : Bool). alone s port class n && f) (flag-of s port class n n<) ∙ e
+
+      -- n is a cause, and is laid behind the others
+      pub with-cause : {after : List Bool} → TakenTo s port class room n taken.Cause after → Listing s port class room before (n + 1) after (found + 1) (set list found n)
+      with-cause t =
+          let (enough, cause) = told-cause (alone s port class n) (tooMany s port class room n) (own s port class n) (t .is ∙ taken-told s port class room n) in
+          let xs = listedBelow s port class n in
+          let more : listedBelow s port class (n + 1) ≡ xs ++ (n ∷ []) = passes (inList s port class) n (in-list true cause) in
+          record {
+            bounded = omega arith;
+            flagged = λ m h. t .flagged (λ e. let z : _≡_ {A = ℕ} 0 1 = cc in omega arith) m (omega arith);
+            counted = ap (λ (k : ℕ). k + 1) (g .counted) ∙ sym (ap length more ∙ length-append xs (n ∷ []));
+            laid =
+                ap (λ (l : List ℕ). set l found n) (g .laid)
+                ∙ ap (λ (k : ℕ). set (laidOver xs before) k n) (g .counted)
+                ∙ sym (ap (λ (l : List ℕ). laidOver l before) more ∙ laid-more xs n before);
+            roomy = roomy-more enough;
+          }
+
+      -- n is none
+      pub with-other : {after : List Bool} → TakenTo s port class room n taken.Other after → Listing s port class room before (n + 1) after found list
+      with-other t =
+          let (enough, other) = told-other (alone s port class n) (tooMany s port class room n) (own s port class n) (t .is ∙ taken-told s port class room n) in
+          let same : listedBelow s port class (n + 1) ≡ listedBelow s port class n = fails (inList s port class) n (in-list false other) in
+          record {
+            bounded = omega arith;
+            flagged = λ m h. t .flagged (λ e. let z : _≡_ {A = ℕ} 0 1 = cc in omega arith) m (omega arith);
+            counted = g .counted ∙ sym (ap length same);
+            laid = g .laid ∙ sym (ap (λ (l : List ℕ). laidOver l before) same);
+            roomy = roomy-more enough;
+          }

@@ -1,0 +1,58 @@
+-- What the verdict on one set of rules is, what its flag says, and what the list becomes. Definitions only.
+use Prim.Native.Nat.{ℕ, suc, _^_, _<_}
+use mathlib.Core.Bool.{Bool, true, false, _&&_}
+use mathlib.Core.Path.{_≡_}
+use mathlib.Core.List.{List, [], _++_}
+use lib.ListN.{length, getD, take, drop}
+use lib.Dec.{ltb}
+use Rattle.alc.specs.Sheet.{Sheet, count}
+use Rattle.alc.specs.Judge.{recordsNeeded}
+use Rattle.alc.specs.Model.{Answer}
+use Rattle.alc.specs.Causes.{withRules, denial, forces, forcing, noSubsetForces, listed, causesAnswer}
+use Rattle.sets.specs.declared.force.Forced.{Forced}
+use Rattle.sets.specs.declared.force.Forced.the-variants.{Full, Yes, No}
+use Rattle.sets.specs.declared.list.Taken.{Taken}
+use Rattle.sets.specs.declared.list.Taken.the-variants as taken
+use Rattle.sets.specs.declared.list.Listed.{Listed}
+use Rattle.sets.specs.declared.list.Listed.the-variants as listing
+
+-- port and class of a query are on the sheet
+abbrev pub OnSheet : Sheet → ℕ → ℕ → Type 0
+OnSheet s port class = (port < s .individuals) × (class < count s)
+
+-- the verdict on one set of rules, where s has these rules alone
+abbrev pub whether : Bool → Forced
+whether true = Yes
+whether false = No
+
+unfoldable pub forcedBy : Sheet → ℕ → ℕ → ℕ → Forced
+forcedBy s port class room = elim (ltb room (length (recordsNeeded s (denial port class)))) [ true ↦ Full | false ↦ whether (forces s port class) ]
+
+-- the flags of the sets below n say which of them force
+abbrev pub Flagged : Sheet → ℕ → ℕ → ℕ → List Bool → Type 0
+Flagged s port class n flags = (m : ℕ) → m < n → getD flags m false ≡ forces (withRules s m) port class
+
+-- ---- one set
+abbrev pub takenBy : Forced → Taken
+takenBy Full = taken.Full
+takenBy Yes = taken.Cause
+takenBy No = taken.Other
+
+-- judged exactly if none of its proper subsets forces
+unfoldable pub takenOf : Sheet → ℕ → ℕ → ℕ → ℕ → Taken
+takenOf s port class room n = elim (noSubsetForces s (forcing s port class) n) [ true ↦ takenBy (forcedBy (withRules s n) port class room) | false ↦ taken.Other ]
+
+pub record TakenTo (s : Sheet) (port class room n : ℕ) (r : Taken) (flags : List Bool) : Type 0 where
+  pub is : r ≡ takenOf s port class room n
+  pub flagged : (r ≡ taken.Full → ⊥) → Flagged s port class (suc n) flags
+
+-- ---- all of them
+-- as much of xs as the buffer holds, and behind it what stood there
+abbrev pub laidOver : List ℕ → List ℕ → List ℕ
+laidOver xs before = take (length before) xs ++ drop (length xs) before
+
+abbrev pub ListedTo : Sheet → ℕ → ℕ → ℕ → List ℕ → Listed → List ℕ → Type 0
+ListedTo s port class room before listing.Full after =
+    (causesAnswer s port class room ≡ record { number = 13; out = [] }) × (length after ≡ length before)
+ListedTo s port class room before (listing.Causes n) after =
+    (causesAnswer s port class room ≡ record { number = 14; out = listed s port class }) × (n ≡ length (listed s port class)) × (after ≡ laidOver (listed s port class) before)
