@@ -1,6 +1,6 @@
 -- The replies of `satisfy`: each of its ways out keeps alc's promise. What holds of any reply stands first; `causes` uses it too.
 use Prim.Native.Nat.{ℕ, zero, suc, _-_, _≤_, _<_}
-use mathlib.Core.Bool.{true, false}
+use mathlib.Core.Bool.{Bool, true, false}
 use mathlib.Core.Path.{_≡_, refl, sym, _∙_, ap}
 use mathlib.Core.Logic.{⊎-elim}
 use mathlib.Core.List.{List, [], _++_}
@@ -28,10 +28,10 @@ drop-replicate (suc k) (suc n) a = let less : n - k ≡ suc n - suc k = omega ar
 module _ (rs ms os : List ℕ) where
   -- what was lent is tested first
   pub checked-badly : lentBadly (length rs) (length ms) ≡ true → (o : Reply) → untouched rs ms os 7 0 ≡ checked rs ms os o
-  checked-badly e o = rw (e, checked)
+  checked-badly e o = sym (ap (λ (b : Bool). elim b as (λ _. Reply) [ true ↦ untouched rs ms os 7 0 | false ↦ o ]) e)
 
   pub checked-well : lentBadly (length rs) (length ms) ≡ false → (o : Reply) → o ≡ checked rs ms os o
-  checked-well e o = rw (e, checked)
+  checked-well e o = sym (ap (λ (b : Bool). elim b as (λ _. Reply) [ true ↦ untouched rs ms os 7 0 | false ↦ o ]) e)
 
   module _ (r : Answer) (out : List ℕ) where
     abbrev pub reply : Reply
