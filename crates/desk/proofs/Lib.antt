@@ -1,3 +1,4 @@
 pub mod Deciding
+pub mod Opens
 pub mod Satisfying
 pub mod Querying

@@ -11,7 +11,7 @@ use native.Mathlib.Decide.{decLt}
 use native.Mathlib.Omega.{arith}
 use borrow.Author.Tests.{ltb-true, lt-ltb, le-ltb, le-leb, lt-leb, not-true, not-false}
 use Rattle.alc.specs.Sheet.{Sheet, count}
-use Rattle.alc.specs.Bytes.{Read, refused, taken, readSheet}
+use Rattle.alc.specs.Bytes.{Read, refused, taken}
 use Rattle.alc.specs.Model as theory
 use Rattle.alc.specs.Causes.{listed, causesAnswer}
 use Rattle.alc.specs.Replies.{Reply, untouched, finished, causesRead, causesReply}
@@ -24,8 +24,9 @@ use Rattle.desk.specs.declared.Answer.the-variants.{OutOfSpace, Causes, 
 use Rattle.sets.specs.declared.list.Listed.{Listed}
 use Rattle.sets.specs.declared.list.Listed.the-variants as listing
 use Rattle.sets.specs.Sets.{OnSheet, ListedTo}
-use Rattle.desk.specs.Desk.{replyOf, lentBadly, Queried}
-use Rattle.desk.proofs.Satisfying.{drop-replicate, checked-badly, checked-well, reply, ends, alone, bare, finished-reply}
+use Rattle.desk.specs.Desk.{replyOf, lentRead, Queried}
+use Rattle.desk.proofs.Opens.{checked-read}
+use Rattle.desk.proofs.Satisfying.{drop-replicate, reply, ends, alone, bare, finished-reply}
 
 -- ---- port and class on the sheet
 abbrev pub onSheet : Sheet → ℕ → ℕ → Bool
@@ -90,37 +91,29 @@ queried-reply rs ms os s port class r out q =
     (λ e f. alone rs ms os r out (LongList (length (a .out))) (q .long e f))
     (λ e. ⊎-elim (λ f. bare rs ms os r out OutOfSpace f refl (q .thirteen f)) (λ f. absurd (e f)) (two-only s port class (length rs)))
 
--- ---- the four ways to a reply keep the promise
+-- ---- the three ways to a reply keep the promise
 module _ (bs : List ℕ) (port class : ℕ) (rs ms os : List ℕ) where
   -- what equals the reply keeps the promise
   causes-kept : {o : Reply} → o ≡ causesReply bs port class rs ms os → CausesPromise bs port class rs ms os o
   causes-kept e = subst (λ (x : Reply). CausesPromise bs port class rs ms os x) (sym e) (causes-promise bs port class rs ms os)
 
-  pub kept-lent-badly : lentBadly (length rs) (length ms) ≡ true → CausesPromise bs port class rs ms os (untouched rs ms os 7 0)
+  causes-read : {x : Read Sheet} → x ≡ lentRead bs (length rs) (length ms) → causesRead rs ms os port class x ≡ causesReply bs port class rs ms os
   unfolding causesReply
-  kept-lent-badly e = causes-kept (checked-badly rs ms os e (causesRead rs ms os port class (readSheet bs)))
+  causes-read e = ap (causesRead rs ms os port class) e ∙ checked-read bs rs ms os (causesRead rs ms os port class) (λ n p. refl)
 
-  module _ (well : lentBadly (length rs) (length ms) ≡ false) where
-    causes-read : {x : Read Sheet} → readSheet bs ≡ x → causesRead rs ms os port class x ≡ causesReply bs port class rs ms os
-    unfolding causesReply
-    causes-read f = ap (causesRead rs ms os port class) (sym f) ∙ checked-well rs ms os well (causesRead rs ms os port class (readSheet bs))
+  pub kept-refused : {n p : ℕ} → refused n p ≡ lentRead bs (length rs) (length ms) → CausesPromise bs port class rs ms os (untouched rs ms os n p)
+  kept-refused e = causes-kept (causes-read e)
 
-    pub kept-refused : {n p : ℕ} → readSheet bs ≡ refused n p → CausesPromise bs port class rs ms os (untouched rs ms os n p)
-    kept-refused f = causes-kept (causes-read f)
+  module _ {s : Sheet} {p : ℕ} (e : taken s p ≡ lentRead bs (length rs) (length ms)) where
+    -- port or class is not on the sheet
+    pub kept-off-sheet : not (onSheet s port class) ≡ true → CausesPromise bs port class rs ms os (untouched rs ms os 8 0)
+    kept-off-sheet h =
+        let eight : untouched rs ms os 8 0 ≡ causesRead rs ms os port class (taken s p) = rw (not-true (onSheet s port class) h, causesRead) in
+        causes-kept (eight ∙ causes-read e)
 
-    module _ {s t : Sheet} {p : ℕ} (f : readSheet bs ≡ taken s p) (same : t ≡ s) where
-      -- port or class is not on a plan of this sheet
-      pub kept-off-sheet : not (onSheet t port class) ≡ true → CausesPromise bs port class rs ms os (untouched rs ms os 8 0)
-      kept-off-sheet h =
-          let off : onSheet s port class ≡ false = rw (← same) (not-true (onSheet t port class) h) in
-          let eight : untouched rs ms os 8 0 ≡ causesRead rs ms os port class (taken s p) = rw (off, causesRead) in
-          causes-kept (eight ∙ causes-read f)
-
-      -- a plan of this sheet queried over a cleared list buffer, then records and marks cleared
-      pub kept-queried : not (onSheet t port class) ≡ false → {r : Answer} {out rs′ ms′ : List ℕ} → Queried (causesAnswer t port class (length rs)) (length os) r out
-          → rs′ ≡ replicate (length rs) 0 → ms′ ≡ replicate (length ms) 0 → CausesPromise bs port class rs ms os (replyOf r rs′ ms′ out)
-      kept-queried h {r} {out} q zr zm =
-          let on : onSheet s port class ≡ true = rw (← same) (not-false (onSheet t port class) h) in
-          let queried : Queried (causesAnswer s port class (length rs)) (length os) r out = rw (← same) q in
-          let answered : finished rs ms os 14 (causesAnswer s port class (length rs)) ≡ causesRead rs ms os port class (taken s p) = rw (on, causesRead) in
-          causes-kept ((λ i. replyOf r (zr i) (zm i) out) ∙ queried-reply rs ms os s port class r out queried ∙ answered ∙ causes-read f)
+    -- a sheet queried over a cleared list buffer, then records and marks cleared
+    pub kept-queried : not (onSheet s port class) ≡ false → {r : Answer} {out rs′ ms′ : List ℕ} → Queried (causesAnswer s port class (length rs)) (length os) r out
+        → rs′ ≡ replicate (length rs) 0 → ms′ ≡ replicate (length ms) 0 → CausesPromise bs port class rs ms os (replyOf r rs′ ms′ out)
+    kept-queried h {r} {out} q zr zm =
+        let answered : finished rs ms os 14 (causesAnswer s port class (length rs)) ≡ causesRead rs ms os port class (taken s p) = rw (not-false (onSheet s port class) h, causesRead) in
+        causes-kept ((λ i. replyOf r (zr i) (zm i) out) ∙ queried-reply rs ms os s port class r out q ∙ answered ∙ causes-read e)

@@ -1,22 +1,22 @@
 -- The replies of `satisfy`: each of its ways out keeps alc's promise. What holds of any reply stands first; `causes` uses it too.
 use Prim.Native.Nat.{ℕ, zero, suc, _-_, _≤_, _<_}
-use mathlib.Core.Bool.{Bool, true, false}
 use mathlib.Core.Path.{_≡_, refl, sym, _∙_, ap}
 use mathlib.Core.Logic.{⊎-elim}
 use mathlib.Core.List.{List, [], _++_}
 use lib.ListN.{length, drop, replicate, length-replicate}
 use native.Mathlib.Omega.{arith}
 use Rattle.alc.specs.Sheet.{Sheet}
-use Rattle.alc.specs.Bytes.{Read, refused, taken, readSheet}
+use Rattle.alc.specs.Bytes.{Read, refused, taken}
 use Rattle.alc.specs.Model as theory
 use Rattle.alc.specs.Model.{satisfyAnswer}
-use Rattle.alc.specs.Replies.{Reply, untouched, finished, cleared, checked, satisfyRead, satisfyReply}
+use Rattle.alc.specs.Replies.{Reply, untouched, finished, cleared, satisfyRead, satisfyReply}
 use Rattle.alc.specs.Promises.{SatisfyPromise}
 use Rattle.alc.specs.Theorems.Answers.{three-only}
 use Rattle.alc.specs.Theorems.Promises.{fits, long, none, finished-cases, zeros-alone, satisfy-kept}
 use Rattle.desk.specs.declared.Answer.{Answer}
 use Rattle.desk.specs.declared.Answer.the-variants.{Model, LongModel, Unsatisfiable, OutOfSpace}
-use Rattle.desk.specs.Desk.{answerNumber, answerValue, replyOf, lentBadly, Decided}
+use Rattle.desk.specs.Desk.{answerNumber, answerValue, replyOf, lentRead, Decided}
+use Rattle.desk.proofs.Opens.{checked-read}
 
 -- zeros behind the first k of n zeros
 pub drop-replicate : {A : Type 0} (k n : ℕ) (a : A) → drop k (replicate n a) ≡ replicate (n - k) a
@@ -26,13 +26,6 @@ drop-replicate (suc k) (suc n) a = let less : n - k ≡ suc n - suc k = omega ar
 
 -- ---- of any reply
 module _ (rs ms os : List ℕ) where
-  -- what was lent is tested first
-  pub checked-badly : lentBadly (length rs) (length ms) ≡ true → (o : Reply) → untouched rs ms os 7 0 ≡ checked rs ms os o
-  checked-badly e o = sym (ap (λ (b : Bool). elim b as (λ _. Reply) [ true ↦ untouched rs ms os 7 0 | false ↦ o ]) e)
-
-  pub checked-well : lentBadly (length rs) (length ms) ≡ false → (o : Reply) → o ≡ checked rs ms os o
-  checked-well e o = sym (ap (λ (b : Bool). elim b as (λ _. Reply) [ true ↦ untouched rs ms os 7 0 | false ↦ o ]) e)
-
   module _ (r : Answer) (out : List ℕ) where
     abbrev pub reply : Reply
     reply = replyOf r (replicate (length rs) 0) (replicate (length ms) 0) out
@@ -69,23 +62,19 @@ decided-reply rs ms os s r out d =
     (λ f. bare rs ms os r out OutOfSpace f refl (d .thirteen f))
     (three-only s (length rs)))
 
--- ---- the three ways to a reply keep the promise
+-- ---- both ways to a reply keep the promise
 module _ (bs rs ms os : List ℕ) where
-  pub kept-lent-badly : lentBadly (length rs) (length ms) ≡ true → SatisfyPromise bs rs ms os (untouched rs ms os 7 0)
+  satisfy-read : {x : Read Sheet} → x ≡ lentRead bs (length rs) (length ms) → satisfyRead rs ms os x ≡ satisfyReply bs rs ms os
   unfolding satisfyReply
-  kept-lent-badly e = satisfy-kept bs rs ms os (checked-badly rs ms os e (satisfyRead rs ms os (readSheet bs)))
+  satisfy-read e = ap (satisfyRead rs ms os) e ∙ checked-read bs rs ms os (satisfyRead rs ms os) (λ n p. refl)
 
-  satisfy-read : lentBadly (length rs) (length ms) ≡ false → {x : Read Sheet} → readSheet bs ≡ x → satisfyRead rs ms os x ≡ satisfyReply bs rs ms os
-  unfolding satisfyReply
-  satisfy-read e f = ap (satisfyRead rs ms os) (sym f) ∙ checked-well rs ms os e (satisfyRead rs ms os (readSheet bs))
+  pub kept-refused : {n p : ℕ} → refused n p ≡ lentRead bs (length rs) (length ms) → SatisfyPromise bs rs ms os (untouched rs ms os n p)
+  kept-refused e = satisfy-kept bs rs ms os (satisfy-read e)
 
-  pub kept-refused : lentBadly (length rs) (length ms) ≡ false → {n p : ℕ} → readSheet bs ≡ refused n p → SatisfyPromise bs rs ms os (untouched rs ms os n p)
-  kept-refused e f = satisfy-kept bs rs ms os (satisfy-read e f)
-
-  -- a plan of this sheet decided over a cleared model buffer, then records and marks cleared
-  pub kept-decided : lentBadly (length rs) (length ms) ≡ false → {s t : Sheet} {p : ℕ} → readSheet bs ≡ taken s p → t ≡ s
-      → {r : Answer} {before out rs′ ms′ : List ℕ} → before ≡ replicate (length os) 0 → Decided (satisfyAnswer t (length rs)) before r out
+  -- a sheet decided over a cleared model buffer, then records and marks cleared
+  pub kept-decided : {s : Sheet} {p : ℕ} → taken s p ≡ lentRead bs (length rs) (length ms)
+      → {r : Answer} {before out rs′ ms′ : List ℕ} → before ≡ replicate (length os) 0 → Decided (satisfyAnswer s (length rs)) before r out
       → rs′ ≡ replicate (length rs) 0 → ms′ ≡ replicate (length ms) 0 → SatisfyPromise bs rs ms os (replyOf r rs′ ms′ out)
-  kept-decided e {s} f same {r} {out = out} blank d zr zm =
-      let decided : Decided (satisfyAnswer s (length rs)) (replicate (length os) 0) r out = rw (← same, ← blank) d in
-      satisfy-kept bs rs ms os ((λ i. replyOf r (zr i) (zm i) out) ∙ decided-reply rs ms os s r out decided ∙ satisfy-read e f)
+  kept-decided {s} e {r} {out = out} blank d zr zm =
+      let decided : Decided (satisfyAnswer s (length rs)) (replicate (length os) 0) r out = rw (← blank) d in
+      satisfy-kept bs rs ms os ((λ i. replyOf r (zr i) (zm i) out) ∙ decided-reply rs ms os s r out decided ∙ satisfy-read e)

@@ -1,13 +1,19 @@
 -- What the desk's answers are: document 01's number and value of each, the whole reply, and what each way to an answer leaves in the model or list buffer. Definitions only.
 use Prim.Native.Nat.{ℕ, _-_, _≤_, _<_}
-use mathlib.Core.Bool.{Bool, _||_}
+use mathlib.Core.Bool.{Bool, true, false, _||_}
 use mathlib.Core.Path.{_≡_}
 use mathlib.Core.List.{List, _++_}
 use lib.ListN.{length, drop, replicate}
 use lib.Dec.{ltb}
+use Rattle.alc.specs.Sheet.{Sheet}
+use Rattle.alc.specs.Bytes.{Read, refused, readSheet}
 use Rattle.alc.specs.Model as theory
 use Rattle.alc.specs.Replies.{Reply, mostRecords}
+use Rattle.sheet.specs.declared.Outcome.the-variants.{Accepted}
 use Rattle.sheet.specs.Form.{reasonNumber}
+use Rattle.sheet.specs.Promise.{outcomeRead}
+use Rattle.plan.specs.Plan.{planSheet, Prepared}
+use Rattle.desk.specs.declared.Opened.{Opened}
 use Rattle.desk.specs.declared.Answer.{Answer}
 use Rattle.desk.specs.declared.Answer.the-variants.{Refused, Model, LongModel, Unsatisfiable, OutOfSpace, Causes, LongList}
 
@@ -36,6 +42,17 @@ replyOf a recs marks out = record { number = answerNumber a; carries = answerVal
 abbrev pub lentBadly : ℕ → ℕ → Bool
 lentBadly records marks = ltb mostRecords records || ltb marks records
 
+-- ---- what a question begins with
+-- "7 is tested first, then the sheet"
+abbrev pub lentRead : List ℕ → ℕ → ℕ → Read Sheet
+lentRead bs records marks = elim (lentBadly records marks) [ true ↦ refused 7 0 | false ↦ readSheet bs ]
+
+-- the refusal with its place, or a plan of the sheet
+pub record Opening (bs : List ℕ) (records marks : ℕ) (o : Opened) : Type 0 where
+  pub exact : outcomeRead (planSheet (o .plan)) (length bs) (o .outcome) ≡ lentRead bs records marks
+  pub planned : o .outcome ≡ Accepted → Prepared (o .plan)
+
+-- ---- what it leaves
 -- the words are put where they fit, and else their length is told and the buffer stays
 pub record Put (ws before : List ℕ) (r : Answer) (after : List ℕ) : Type 0 where
   pub fits : length ws ≤ length before → (r ≡ Model (length ws)) × (after ≡ ws ++ drop (length ws) before)

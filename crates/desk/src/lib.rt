@@ -16,7 +16,8 @@ use sheet::read_sheet;
 ghost use mathlib.Core.Path.{_≡_};
 ghost use Prim.Native.Nat.{_<_};
 ghost use Rattle.alc.specs.Promises.{SatisfyPromise, CausesPromise};
-ghost use Rattle.desk.specs.Desk.{answerNumber, answerValue, replyOf, lentBadly};
+ghost use Rattle.sheet.specs.declared.Outcome.the-variants as outcome;
+ghost use Rattle.desk.specs.Desk.{answerNumber, answerValue, replyOf, lentBadly, Opening};
 
 // The answers of document 01, each with what it carries.
 pub enum Answer {
@@ -69,20 +70,53 @@ fn lent_badly(records: usize, marks: usize) -> bool
     marks < records
 }
 
-// Is the sheet satisfiable? With its model, or the length that it wants.
-pub fn satisfy(sheet: &[u8], records: &mut [u64], marks: &mut [u8], model: &mut [u32]) -> Answer
-    ensures { λ r. ⌜ SatisfyPromise (now (sheet .entry)) (now (records .entry)) (now (marks .entry)) (now (model .entry)) (replyOf r (now (records .exit)) (now (marks .exit)) (now (model .exit))) ⌝ }
+// What a question begins with: the plan of an accepted sheet, or a refusal.
+struct Opened {
+    plan: [u32; plan::SIZE],
+    outcome: Outcome,
+}
+
+// What was lent is looked at first, then the sheet from front to back.
+fn open_sheet(sheet: &[u8], records: usize, marks: usize) -> Opened
+    ensures { λ r. ⌜ Opening (now (sheet .entry)) records marks r ⌝ }
 {
-    if lent_badly(records.len(), marks.len()) {
-        return Answer::Refused(Reason::LentBadly, 0);
+    if lent_badly(records, marks) {
+        return refused(Reason::LentBadly, 0);
     }
     let read = read_sheet(sheet);
     let outcome = read.outcome;
     match outcome {
-        Outcome::Refused(why, at) => Answer::Refused(why, at),
+        Outcome::Refused(why, at) => refused(why, at),
         Outcome::Accepted => {
             let form = read.sheet;
-            let plan = prepare(form);
+            Opened {
+                plan: prepare(form),
+                outcome: outcome,
+            }
+        }
+    }
+}
+
+// Nobody looks at the plan of a refusal.
+fn refused(why: Reason, at: usize) -> Opened
+    ensures { λ r. ⌜ r .outcome ≡ outcome.Refused why at ⌝ }
+{
+    Opened {
+        plan: [0; plan::SIZE],
+        outcome: Outcome::Refused(why, at),
+    }
+}
+
+// Is the sheet satisfiable? With its model, or the length that it wants.
+pub fn satisfy(sheet: &[u8], records: &mut [u64], marks: &mut [u8], model: &mut [u32]) -> Answer
+    ensures { λ r. ⌜ SatisfyPromise (now (sheet .entry)) (now (records .entry)) (now (marks .entry)) (now (model .entry)) (replyOf r (now (records .exit)) (now (marks .exit)) (now (model .exit))) ⌝ }
+{
+    let opened = open_sheet(sheet, records.len(), marks.len());
+    let outcome = opened.outcome;
+    match outcome {
+        Outcome::Refused(why, at) => Answer::Refused(why, at),
+        Outcome::Accepted => {
+            let plan = opened.plan;
             clear_words(model);
             let answer = decide(&plan, records, marks, model);
             clear_records(records);
@@ -103,16 +137,12 @@ pub fn causes(
 ) -> Answer
     ensures { λ r. ⌜ CausesPromise (now (sheet .entry)) port class (now (records .entry)) (now (marks .entry)) (now (list .entry)) (replyOf r (now (records .exit)) (now (marks .exit)) (now (list .exit))) ⌝ }
 {
-    if lent_badly(records.len(), marks.len()) {
-        return Answer::Refused(Reason::LentBadly, 0);
-    }
-    let read = read_sheet(sheet);
-    let outcome = read.outcome;
+    let opened = open_sheet(sheet, records.len(), marks.len());
+    let outcome = opened.outcome;
     match outcome {
         Outcome::Refused(why, at) => Answer::Refused(why, at),
         Outcome::Accepted => {
-            let form = read.sheet;
-            let plan = prepare(form);
+            let plan = opened.plan;
             if off_sheet(&plan, port, class) {
                 return Answer::Refused(Reason::OffSheet, 0);
             }
