@@ -14,11 +14,11 @@ use Rattle.alc.specs.Sheet.{Sheet, count}
 use Rattle.alc.specs.Bytes.{Read, refused, taken}
 use Rattle.alc.specs.Model as theory
 use Rattle.alc.specs.Causes.{listed, causesAnswer}
-use Rattle.alc.specs.Replies.{Reply, untouched, finished, causesRead, causesReply}
+use Rattle.alc.specs.Replies.{untouched, finished, causesRead, causesReply}
 use Rattle.alc.specs.Promises.{CausesPromise}
 use Rattle.alc.specs.Theorems.Lists.{and-left, and-right}
 use Rattle.alc.specs.Theorems.Answers.{two-only}
-use Rattle.alc.specs.Theorems.Promises.{causes-promise}
+use Rattle.alc.specs.Theorems.Promises.{causes-kept}
 use Rattle.desk.specs.declared.Answer.{Answer}
 use Rattle.desk.specs.declared.Answer.the-variants.{OutOfSpace, Causes, LongList}
 use Rattle.sets.specs.declared.list.Listed.{Listed}
@@ -93,27 +93,23 @@ queried-reply rs ms os s port class r out q =
 
 -- ---- the three ways to a reply keep the promise
 module _ (bs : List ℕ) (port class : ℕ) (rs ms os : List ℕ) where
-  -- what equals the reply keeps the promise
-  causes-kept : {o : Reply} → o ≡ causesReply bs port class rs ms os → CausesPromise bs port class rs ms os o
-  causes-kept e = subst (λ (x : Reply). CausesPromise bs port class rs ms os x) (sym e) (causes-promise bs port class rs ms os)
-
   causes-read : {x : Read Sheet} → x ≡ lentRead bs (length rs) (length ms) → causesRead rs ms os port class x ≡ causesReply bs port class rs ms os
   unfolding causesReply
   causes-read e = ap (causesRead rs ms os port class) e ∙ checked-read bs rs ms os (causesRead rs ms os port class) (λ n p. refl)
 
   pub kept-refused : {n p : ℕ} → refused n p ≡ lentRead bs (length rs) (length ms) → CausesPromise bs port class rs ms os (untouched rs ms os n p)
-  kept-refused e = causes-kept (causes-read e)
+  kept-refused e = causes-kept bs port class rs ms os (causes-read e)
 
   module _ {s : Sheet} {p : ℕ} (e : taken s p ≡ lentRead bs (length rs) (length ms)) where
     -- port or class is not on the sheet
     pub kept-off-sheet : not (onSheet s port class) ≡ true → CausesPromise bs port class rs ms os (untouched rs ms os 8 0)
     kept-off-sheet h =
         let eight : untouched rs ms os 8 0 ≡ causesRead rs ms os port class (taken s p) = rw (not-true (onSheet s port class) h, causesRead) in
-        causes-kept (eight ∙ causes-read e)
+        causes-kept bs port class rs ms os (eight ∙ causes-read e)
 
     -- a sheet queried over a cleared list buffer, then records and marks cleared
     pub kept-queried : not (onSheet s port class) ≡ false → {r : Answer} {out rs′ ms′ : List ℕ} → Queried (causesAnswer s port class (length rs)) (length os) r out
         → rs′ ≡ replicate (length rs) 0 → ms′ ≡ replicate (length ms) 0 → CausesPromise bs port class rs ms os (replyOf r rs′ ms′ out)
     kept-queried h {r} {out} q zr zm =
         let answered : finished rs ms os 14 (causesAnswer s port class (length rs)) ≡ causesRead rs ms os port class (taken s p) = rw (not-false (onSheet s port class) h, causesRead) in
-        causes-kept ((λ i. replyOf r (zr i) (zm i) out) ∙ queried-reply rs ms os s port class r out q ∙ answered ∙ causes-read e)
+        causes-kept bs port class rs ms os ((λ i. replyOf r (zr i) (zm i) out) ∙ queried-reply rs ms os s port class r out q ∙ answered ∙ causes-read e)

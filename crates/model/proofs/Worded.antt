@@ -21,7 +21,7 @@ use Rattle.alc.specs.Settle.{label}
 use Rattle.alc.specs.Seeds.{asks}
 use Rattle.alc.specs.Model.{leads, asserted, chosen, labelAt, edgeAt, modelEdges, nameMask, modelSeeds, modelWords}
 use Rattle.alc.specs.Model as model
-use Rattle.alc.specs.Theorems.Lists.{and-left, and-right, and-both, and-false-left, and-false-right, or-right, cond-elim, each-append, each-elim, all-elim, getD-in, length-from, same?}
+use Rattle.alc.specs.Theorems.Lists.{and-left, and-right, and-both, and-false-left, and-false-right, or-right, cond-elim, each-append, each-elim, all-elim, getD-in, length-from, same?, upTo-more}
 use Rattle.alc.specs.Theorems.Counting.{length-each}
 use Rattle.alc.specs.Theorems.Bits.{bit-none, bit-put, bit-put-other, put-word, bit-ext-below}
 use Rattle.alc.specs.Theorems.Words.{mask-small, mask-bit}
@@ -38,15 +38,6 @@ use Rattle.plan.proofs.Lines.{line-of-kind}
 use Rattle.engine.proofs.Ledgers.{recorded-at, length-recorded}
 
 -- ---- one more of a range
-from-more : (a k : ℕ) → from a (suc k) ≡ from a k ++ ((a + k) ∷ [])
-from-more a zero = ap (λ (n : ℕ). n ∷ []) (omega arith)
-from-more a (suc k) =
-    let e : suc a + k ≡ a + suc k = omega arith in
-    ap (λ (l : List ℕ). a ∷ l) (from-more (suc a) k ∙ ap (λ (n : ℕ). from (suc a) k ++ (n ∷ [])) e)
-
-upTo-more : (n : ℕ) → upTo (n + 1) ≡ upTo n ++ (n ∷ [])
-upTo-more n = let e : n + 1 ≡ suc n = omega arith in let z : 0 + n ≡ n = omega arith in rw e (from-more 0 n ∙ ap (λ (k : ℕ). upTo n ++ (k ∷ [])) z)
-
 module _ {B : Type 0} (f : ℕ → List B) where
   pub each-more : (n : ℕ) → each f (upTo (n + 1)) ≡ each f (upTo n) ++ f n
   each-more n = ap (each f) (upTo-more n) ∙ each-append f (upTo n) (n ∷ []) ∙ ap (λ (r : List B). each f (upTo n) ++ r) (append-nil (f n))

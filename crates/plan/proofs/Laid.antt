@@ -16,7 +16,7 @@ use Rattle.alc.specs.Sheet.{Line, top, bottom, name, not, and, or, some, only, 
 use Rattle.alc.specs.Label.{sameName, isName}
 use Rattle.alc.specs.Seeds.{isQuantified}
 use Rattle.alc.specs.Theorems.Bits.{bit-put, bit-put-other, bit-none}
-use Rattle.alc.specs.Theorems.Lists.{clashing, and-left, and-right, and-both, same?, length-from, map-from}
+use Rattle.alc.specs.Theorems.Lists.{clashing, and-left, and-right, and-both, same?, length-from, map-from, map-same}
 use Rattle.alc.specs.Theorems.Sheet.{well-formed}
 use Rattle.sheet.specs.declared.Section.{Section}
 use Rattle.sheet.specs.declared.Sheet.{Sheet as Form}
@@ -73,11 +73,6 @@ stands-on : {base at base′ at′ : ℕ} {s s′ : Section} {p q : List ℕ} �
 stands-on {at = at} {q = q} laid (a, b, l) st = stands-kept q st (laid .behind at b (λ g. omega arith)) (λ j h. laid .below j (omega arith))
 
 -- ---- the sheet
--- two functions that agree below the end of a range
-map-same : {A : Type 0} (f g : ℕ → A) (a k : ℕ) → ((i : ℕ) → i < a + k → f i ≡ g i) → map f (from a k) ≡ map g (from a k)
-map-same f g a zero h = refl
-map-same f g a (suc k) h = rw (h a (omega arith), map-same f g (suc a) k (λ i b. h i (omega arith)))
-
 length-entries : {A : Type 0} (f : Triple → A) (e : ℕ → Triple) (n : ℕ) → length (map f (map e (upTo n))) ≡ n
 length-entries f e n = length-map (map e (upTo n)) f ∙ length-map (upTo n) e ∙ length-from 0 n
 

@@ -6,27 +6,23 @@ use mathlib.Core.List.{List, [], _∷_, _++_, map, append-nil}
 use native.Mathlib.Decide.{decLt}
 use native.Mathlib.Omega.{arith}
 use lib.Dec.{ltb}
-use lib.ListN.{length, getD, set, length-append, length-map, length-set, List·getD-eq-default}
+use lib.ListN.{length, getD, set, length-append, length-set, List·getD-eq-default}
 use lib.Seq.{getD-set-same, getD-set-other, set-out}
 use borrow.Author.Tests.{ltb-true, lt-ltb}
 use Rattle.alc.specs.Bits.{bit}
 use Rattle.alc.specs.Lists.{from, upTo}
-use Rattle.alc.specs.Sheet.{Rule, Sheet, count, wellFormed, linesWell, rulesWell, classesWell, rolesWell, inLimits, mostRules, mostClasses}
+use Rattle.alc.specs.Sheet.{Rule, Sheet, count, wellFormed, linesWell, rulesWell, classesWell, rolesWell, inLimits, mostRules}
 use Rattle.alc.specs.Causes.{keepRules, withRules}
-use Rattle.alc.specs.Theorems.Lists.{and-left, and-right, and-both, all-intro, length-from}
+use Rattle.alc.specs.Theorems.Lists.{and-left, and-right, and-both, all-intro, map-same}
 use Rattle.alc.specs.Theorems.Sheet.{well-formed}
 use Rattle.alc.specs.Theorems.Causes.{kept-well-formed}
 use Rattle.sheet.specs.Form.{triple, lineOf, classOf, roleOf}
 use Rattle.plan.specs.Plan.{entryFrom, entriesFrom, planSheet, Prepared}
 use Rattle.plan.proofs.Lines.{ruleAt, rules-are, line-count, lines-fit, rules-fit}
 use Rattle.tableau.proofs.Roles.{roles-fit}
+use Rattle.engine.proofs.Strikes.{classes-fit}
 
 -- ---- ranges
--- two functions that agree below the end of a range
-map-same : {A : Type 0} (f g : ℕ → A) (a k : ℕ) → ((i : ℕ) → i < a + k → f i ≡ g i) → map f (from a k) ≡ map g (from a k)
-map-same f g a zero h = refl
-map-same f g a (suc k) h = rw (h a (omega arith), map-same f g (suc a) k (λ i b. h i (omega arith)))
-
 -- what stands first behind a range is its next
 map-next : {A : Type 0} (f : ℕ → A) (a k : ℕ) (xs : List A) → map f (from a k) ++ (f (a + k) ∷ xs) ≡ map f (from a (suc k)) ++ xs
 map-next f a zero xs = let e : a + 0 ≡ a = omega arith in rw e refl
@@ -154,17 +150,6 @@ section-same p q base at few e same =
     ap (λ (k : ℕ). map (entryFrom q base) (upTo k)) e
     ∙ map-same (entryFrom q base) (entryFrom p base) 0 (getD p at 0) (λ i b x.
     triple (same (base + i) (omega arith) (omega arith) x) (same (base + 32 + i) (omega arith) (omega arith) x) (same (base + 64 + i) (omega arith) (omega arith) x))
-
--- the class assertions are few
-classes-fit : {p : List ℕ} → Prepared p → getD p 387 0 ≤ 16
-unfolding inLimits planSheet
-classes-fit {p} h =
-    let s = planSheet p in
-    let l : inLimits s ≡ true = h .limited in
-    let a : ltb (length (s .classes)) (suc mostClasses) ≡ true = search (and-left, and-right) in
-    let e : length (s .classes) ≡ getD p 387 0 =
-    length-map (entriesFrom p 192 387) classOf ∙ length-map (upTo (getD p 387 0)) (entryFrom p 192) ∙ length-from 0 (getD p 387 0) in
-    omega (arith, ltb-true (length (s .classes)) (suc mostClasses) a)
 
 module _ {p : List ℕ} {n i kept : ℕ} {q : List ℕ} (h : Prepared p) (t : KeptTo p n i kept q) (end : getD p 385 0 ≤ i) where
   -- the plan with the count of the rules that were kept

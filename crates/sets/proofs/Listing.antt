@@ -4,8 +4,7 @@ use mathlib.Core.Bool.{Bool, true, false, not as flip, _&&_}
 use mathlib.Core.Path.{_≡_, refl, sym, _∙_, ap, subst}
 use mathlib.Core.Logic.{⊎-elim}
 use mathlib.Core.List.{List, [], _∷_, _++_, append-nil}
-use native.Mathlib.Nat.{one-mul, zero-add}
-use native.Mathlib.Numerals.{add-one}
+use native.Mathlib.Nat.{one-mul}
 use native.Mathlib.Omega.{arith}
 use lib.ListN.{length, getD, set, length-append}
 use lib.Seq.{take-nil, getD-set-same, getD-set-other}
@@ -13,14 +12,15 @@ use lib.Dec.{ltb, lit<}
 use lib.Pow.{pow-mono, pow-pos, shl-exact}
 use borrow.Author.Tests.{not-true}
 use Rattle.alc.specs.Bits.{bit}
-use Rattle.alc.specs.Lists.{any, filter, from, upTo}
+use Rattle.alc.specs.Lists.{any, filter, upTo}
 use Rattle.alc.specs.Sheet.{Sheet}
 use Rattle.alc.specs.Judge.{recordsNeeded}
 use Rattle.alc.specs.Causes.{withRules, ruleSets, denial, forces, forcing, noSubsetForces, listed, causesAnswer}
-use Rattle.alc.specs.Theorems.Lists.{cases, clashing, tests-same, and-left, and-right, and-both, any-intro, any-elim, any-none, any-false, filter-length, upTo-intro, upTo-elim, length-from, map-from, same?}
+use Rattle.alc.specs.Theorems.Lists.{cases, clashing, tests-same, and-left, and-right, and-both, any-intro, any-elim, any-none, any-false, filter-append, filter-length, upTo-intro, upTo-elim, upTo-more, length-from, same?}
 use Rattle.alc.specs.Theorems.Bits.{bit-le}
 use Rattle.alc.specs.Theorems.Sheet.{WellFormed}
-use Rattle.alc.specs.Theorems.Causes.{drop-one, forces-at, forces-mono, no-subset-elim, no-subset-intro}
+use Rattle.alc.specs.Theorems.Causes.{drop-one, forces-at, forces-mono, forcing-at, no-subset-elim, no-subset-intro}
+use Rattle.alc.specs.Theorems.Answers.{short, causes-short, causes-listed}
 use Rattle.sets.specs.declared.force.Forced.{Forced}
 use Rattle.sets.specs.declared.force.Forced.the-variants.{Full, Yes, No}
 use Rattle.sets.specs.declared.list.Taken.{Taken}
@@ -38,26 +38,10 @@ pub few-sets : (k : ℕ) → k ≤ 12 → 2 ^ k ≤ 4096
 few-sets k h = pow-mono {i = k} {j = 12} h
 
 -- ---- lists
--- the range that is one longer has its end besides
-from-more : (a k : ℕ) → from a (suc k) ≡ from a k ++ ((a + k) ∷ [])
-from-more a zero = ap (λ (x : ℕ). x ∷ []) (omega arith)
-from-more a (suc k) = ap (λ (r : List ℕ). a ∷ r) (from-more (suc a) k ∙ ap (λ (x : ℕ). from (suc a) k ++ (x ∷ [])) (omega arith))
-
-filter-append : (p : ℕ → Bool) (l m : List ℕ) → filter p (l ++ m) ≡ filter p l ++ filter p m
-filter-append p [] m = refl
-filter-append p (y ∷ l) m =
-    ⊎-elim
-    (λ (e : p y ≡ true). rw (e, filter) (ap (λ (r : List ℕ). y ∷ r) (filter-append p l m)))
-    (λ (e : p y ≡ false). rw (e, filter) (filter-append p l m))
-    (cases (p y))
-
 -- those that pass below k + 1: those below k, and k if it passes
 module _ (p : ℕ → Bool) (k : ℕ) where
   range-more : filter p (upTo (k + 1)) ≡ filter p (upTo k) ++ filter p (k ∷ [])
-  range-more =
-      ap (λ (j : ℕ). filter p (upTo j)) (add-one k)
-      ∙ ap (filter p) (from-more 0 k ∙ ap (λ (x : ℕ). upTo k ++ (x ∷ [])) (zero-add k))
-      ∙ filter-append p (upTo k) (k ∷ [])
+  range-more = ap (filter p) (upTo-more k) ∙ filter-append p (upTo k) (k ∷ [])
 
   passes : p k ≡ true → filter p (upTo (k + 1)) ≡ filter p (upTo k) ++ (k ∷ [])
   passes e = range-more ∙ rw (e, filter)
@@ -170,12 +154,9 @@ module _ (s : Sheet) (port class : ℕ) where
               (cases (any (lessForces flags n) (upTo (length (s .rules)))))
 
   module _ (room : ℕ) where
-    -- the set n needs more records than there are; and it would have to be judged
+    -- the set n needs more records than there are
     abbrev tooMany : ℕ → Bool
     tooMany n = ltb room (length (recordsNeeded (withRules s n) (denial port class)))
-
-    abbrev pub short : ℕ → Bool
-    short n = alone n && tooMany n
 
     -- ---- one set
     module _ (n : ℕ) where
@@ -231,14 +212,6 @@ module _ (s : Sheet) (port class : ℕ) where
           pub take-no : No ≡ forcedBy (withRules s n) port class room → TakenTo s port class room n taken.Other (set flags n false)
           take-no v = record { is = judged v; flagged = λ _. flag-more false (no-forces v) }
 
-    answer-short : any short (ruleSets s) ≡ true → causesAnswer s port class room ≡ record { number = 13; out = [] }
-    unfolding causesAnswer
-    answer-short h = rw (h, causesAnswer)
-
-    answer-listed : any short (ruleSets s) ≡ false → causesAnswer s port class room ≡ record { number = 14; out = listed s port class }
-    unfolding causesAnswer
-    answer-listed h = rw (h, causesAnswer)
-
   -- ---- the list
   -- n is in it
   abbrev inList : ℕ → Bool
@@ -251,10 +224,6 @@ module _ (s : Sheet) (port class : ℕ) where
   listed-all : listedBelow (2 ^ length (s .rules)) ≡ listed s port class
   unfolding listed
   listed-all = refl
-
-  -- the definition's flag of n
-  flag-of : (n : ℕ) → n < 2 ^ length (s .rules) → getD (forcing s port class) n false ≡ own n
-  flag-of n h = map-from own false 0 (2 ^ length (s .rules)) n h ∙ ap own (zero-add n)
 
 -- the flags of the sets below n are right, the list has the causes among them, and none of them was short of room
 pub record Listing (s : Sheet) (port class room : ℕ) (before : List ℕ) (n : ℕ) (flags : List Bool) (found : ℕ) (list : List ℕ) : Type 0 where
@@ -287,7 +256,7 @@ module _ (s : Sheet) (port class room : ℕ) (before : List ℕ) where
     all-listed h =
         let end : n ≡ 2 ^ length (s .rules) = omega (arith, g .bounded) in
         let same : listedBelow s port class n ≡ listed s port class = ap (listedBelow s port class) end ∙ listed-all s port class in (
-          answer-listed s port class room (any-false (short s port class room) (ruleSets s) (λ m i. g .roomy m (omega (arith, upTo-elim (2 ^ length (s .rules)) m i)))),
+          causes-listed s port class room (any-false (short s port class room) (ruleSets s) (λ m i. g .roomy m (omega (arith, upTo-elim (2 ^ length (s .rules)) m i)))),
           g .counted ∙ ap length same,
           g .laid ∙ ap (λ (xs : List ℕ). laidOver xs before) same,
         )
@@ -297,14 +266,14 @@ module _ (s : Sheet) (port class room : ℕ) (before : List ℕ) where
       pub was-full : {after : List Bool} → TakenTo s port class room n taken.Full after → ListedTo s port class room before outcome.Full list
       was-full t =
           let full : short s port class room n ≡ true = told-full (alone s port class n) (tooMany s port class room n) (own s port class n) (t .is ∙ taken-told s port class room n) in
-          (answer-short s port class room (any-intro (short s port class room) (ruleSets s) (upTo-intro (2 ^ length (s .rules)) n n<) full), list-length)
+          (causes-short s port class room (any-intro (short s port class room) (ruleSets s) (upTo-intro (2 ^ length (s .rules)) n n<) full), list-length)
 
       -- there was room for n too
       roomy-more : short s port class room n ≡ false → (m : ℕ) → m < n + 1 → short s port class room m ≡ false
       roomy-more e m h = ⊎-elim (λ (q : m ≡ n). rw q e) (λ q. g .roomy m (omega arith)) (same? m n)
 
       in-list : (b : Bool) → (alone s port class n && own s port class n) ≡ b → inList s port class n ≡ b
-      in-list b e = ap (λ (f : Bool). alone s port class n && f) (flag-of s port class n n<) ∙ e
+      in-list b e = ap (λ (f : Bool). alone s port class n && f) (forcing-at s port class n n<) ∙ e
 
       -- n is a cause, and is laid behind the others
       pub with-cause : {after : List Bool} → TakenTo s port class room n taken.Cause after → Listing s port class room before (n + 1) after (found + 1) (set list found n)

@@ -117,15 +117,16 @@ pub ascending-unique : (xs ys : List ℕ) → Ascending xs → Ascending ys → 
 ascending-unique xs ys p q h = sorted-unique _<_ (λ x y a b. omega arith) xs ys (ascending-sorted xs p) (ascending-sorted ys q) h
 
 module _ (s : Sheet) (port class room : ℕ) where
-  short : ℕ → Bool
+  -- a set that would have to be judged needs more records than there are
+  abbrev pub short : ℕ → Bool
   short n = noSubsetForces s (forcing s port class) n && ltb room (length (recordsNeeded (withRules s n) (denial port class)))
 
-  causes-short : any short (ruleSets s) ≡ true → causesAnswer s port class room ≡ record { number = 13; out = [] }
-  unfolding causesAnswer short
+  pub causes-short : any short (ruleSets s) ≡ true → causesAnswer s port class room ≡ record { number = 13; out = [] }
+  unfolding causesAnswer
   causes-short h = rw (h, causesAnswer)
 
-  causes-listed : any short (ruleSets s) ≡ false → causesAnswer s port class room ≡ record { number = 14; out = listed s port class }
-  unfolding causesAnswer short
+  pub causes-listed : any short (ruleSets s) ≡ false → causesAnswer s port class room ≡ record { number = 14; out = listed s port class }
+  unfolding causesAnswer
   causes-listed h = rw (h, causesAnswer)
 
   short-iff : (causesAnswer s port class room .number ≡ 13) ↔ (any short (ruleSets s) ≡ true)
@@ -153,7 +154,7 @@ module _ (s : Sheet) (port class room : ℕ) where
     -- 13 exactly when some set, none of whose proper subsets forces, needs more records than lent
     pub causes-thirteen : (causesAnswer s port class room .number ≡ 13)
         ↔ ((n : ℕ) × (n < 2 ^ length (s .rules)) × NoSubsetForces s port class n × (room < length (recordsNeeded (withRules s n) (denial port class))))
-    unfolding short NoSubsetForces
+    unfolding NoSubsetForces
     causes-thirteen = (there-, back)
       where
         there- : causesAnswer s port class room .number ≡ 13 → (n : ℕ) × (n < 2 ^ length (s .rules)) × NoSubsetForces s port class n × (room < length (recordsNeeded (withRules s n) (denial port class)))

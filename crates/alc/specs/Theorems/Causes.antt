@@ -17,7 +17,7 @@ use Rattle.alc.specs.Label.{lineOf, markTrue, fails}
 use Rattle.alc.specs.Settle.{Joint}
 use Rattle.alc.specs.Judge.{Entry, EntriesTrue, firstFine}
 use Rattle.alc.specs.Causes.{keepRules, denial, within, NoSubsetForces, forcing, noSubsetForces, Cause, listed, isNothing, withRules, ruleSets, forces}
-use Rattle.alc.specs.Theorems.Lists.{and-both, and-right, filter-intro, implies, implied, tests-same, same?, all-fails, not-of-false, or-false-left, or-false-right, cond-intro, cond-elim, clashing, cases, all-intro, here, all-elim, upTo-intro, filter-elim, and-left, upTo-elim}
+use Rattle.alc.specs.Theorems.Lists.{and-both, and-right, filter-intro, implies, implied, tests-same, same?, all-fails, not-of-false, or-false-left, or-false-right, cond-intro, cond-elim, clashing, cases, all-intro, here, all-elim, upTo-intro, filter-elim, and-left, upTo-elim, map-from}
 use Rattle.alc.specs.Theorems.Sheet.{WellFormed}
 use Rattle.alc.specs.Theorems.Bits.{bit-le, bit-below, bit-ext, bit-without-other}
 use Rattle.alc.specs.Theorems.Meaning.{truth-lines, rules-intro, rules-elim}
@@ -72,15 +72,12 @@ keepRules-mono m n i (q ∷ rs) h r k =
 pub kept-well-formed : (s : Sheet) → WellFormed s → (n : ℕ) → WellFormed (withRules s n)
 kept-well-formed s wf n = record { operands = wf .operands; rules = λ r h. wf .rules r (keepRules-in n 0 (s .rules) r h); classes = wf .classes; roles = wf .roles }
 
-flag-at : (f : ℕ → Bool) (a k i : ℕ) → i < k → getD (map f (from a k)) i false ≡ f (a + i)
-flag-at f a zero i h = absurd (omega arith)
-flag-at f a (suc k) zero h = ap f (omega arith)
-flag-at f a (suc k) (suc i) h = flag-at f (suc a) k i (omega arith) ∙ ap f (omega arith)
+-- the flags say which sets force
+pub forcing-at : (s : Sheet) (port class n : ℕ) → n < 2 ^ length (s .rules) → getD (forcing s port class) n false ≡ forces (withRules s n) port class
+forcing-at s port class n h =
+    map-from (λ n. forces (withRules s n) port class) false 0 (2 ^ length (s .rules)) n h ∙ ap (λ (k : ℕ). forces (withRules s k) port class) (omega arith)
 
 module _ (s : Sheet) (wf : WellFormed s) (port class : ℕ) (p< : port < s .individuals) (c< : class < count s) where
-  forcing-at : (n : ℕ) → n < 2 ^ length (s .rules) → getD (forcing s port class) n false ≡ forces (withRules s n) port class
-  forcing-at n h = flag-at (λ n. forces (withRules s n) port class) 0 (2 ^ length (s .rules)) n h ∙ ap (λ (k : ℕ). forces (withRules s k) port class) (omega arith)
-
   pub forces-at : (n : ℕ) → (forces (withRules s n) port class ≡ true) ↔ Forces (withRules s n) port class
   forces-at n = forces-is (withRules s n) (kept-well-formed s wf n) port class p< c<
 
@@ -90,7 +87,7 @@ module _ (s : Sheet) (wf : WellFormed s) (port class : ℕ) (p< : port < s .indi
   no-subset-elim n e m h w ne f =
       let t : (within (length (s .rules)) m n && flip (eqb m n) && getD (forcing s port class) m false) ≡ false =
       not-true _ (all-elim (λ m. flip (within (length (s .rules)) m n && flip (eqb m n) && getD (forcing s port class) m false)) (ruleSets s) e m (upTo-intro (2 ^ length (s .rules)) m h)) in
-      clashing _ (and-both (within (length (s .rules)) m n && flip (eqb m n)) _ (and-both (within (length (s .rules)) m n) _ w (ap flip (ne-eqb m n ne))) (forcing-at m h ∙ f)) t
+      clashing _ (and-both (within (length (s .rules)) m n && flip (eqb m n)) _ (and-both (within (length (s .rules)) m n) _ w (ap flip (ne-eqb m n ne))) (forcing-at s port class m h ∙ f)) t
 
   pub no-subset-intro : (n : ℕ) → ((m : ℕ) → m < 2 ^ length (s .rules) → within (length (s .rules)) m n ≡ true → (m ≡ n → ⊥) → forces (withRules s m) port class ≡ true → ⊥)
       → noSubsetForces s (forcing s port class) n ≡ true
@@ -103,7 +100,7 @@ module _ (s : Sheet) (wf : WellFormed s) (port class : ℕ) (p< : port < s .indi
       let m< : m < 2 ^ length (s .rules) = upTo-elim (2 ^ length (s .rules)) m i in
       ⊎-elim
       (λ (t : (W && E && G) ≡ true).
-      absurd (h m m< (and-left W E (and-left (W && E) G t)) (eqb-false m n (not-true (eqb m n) (and-right W E (and-left (W && E) G t)))) (sym (forcing-at m m<) ∙ and-right (W && E) G t)))
+      absurd (h m m< (and-left W E (and-left (W && E) G t)) (eqb-false m n (not-true (eqb m n) (and-right W E (and-left (W && E) G t)))) (sym (forcing-at s port class m m<) ∙ and-right (W && E) G t)))
       (λ t. ap flip t)
       (cases (W && E && G)))
 
@@ -119,14 +116,14 @@ module _ (s : Sheet) (wf : WellFormed s) (port class : ℕ) (p< : port < s .indi
           let sm = and-left (noSubsetForces s (forcing s port class) n) (getD (forcing s port class) n false) t in
           record {
             is-set = n<;
-            forced = forces-at n .0 (sym (forcing-at n n<) ∙ and-right (noSubsetForces s (forcing s port class) n) (getD (forcing s port class) n false) t);
+            forced = forces-at n .0 (sym (forcing-at s port class n n<) ∙ and-right (noSubsetForces s (forcing s port class) n) (getD (forcing s port class) n false) t);
             least = λ m m< w ne f. no-subset-elim n sm m m< w ne (forces-at m .1 f);
           }
 
       back : Cause s port class n → n ∈ filter (λ n. noSubsetForces s (forcing s port class) n && getD (forcing s port class) n false) (ruleSets s)
       back c =
           filter-intro (λ n. noSubsetForces s (forcing s port class) n && getD (forcing s port class) n false) (ruleSets s) (upTo-intro (2 ^ length (s .rules)) n (c .is-set))
-          (and-both (noSubsetForces s (forcing s port class) n) _ (no-subset-intro n (λ m m< w ne f. c .least m m< w ne (forces-at m .0 f))) (forcing-at n (c .is-set) ∙ forces-at n .1 (c .forced)))
+          (and-both (noSubsetForces s (forcing s port class) n) _ (no-subset-intro n (λ m m< w ne f. c .least m m< w ne (forces-at m .0 f))) (forcing-at s port class n (c .is-set) ∙ forces-at n .1 (c .forced)))
 
 -- ---- more rules force more
 within-elim : (t m n : ℕ) → within t m n ≡ true → (j : ℕ) → j < t → bit m j ≡ true → bit n j ≡ true

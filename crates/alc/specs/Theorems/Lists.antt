@@ -249,6 +249,14 @@ module _ {A : Type 0} where
       (λ s. let r = filter-elim p ys (rw (s .1) at h) in (there (r .0), r .1))
       (filter-step p y ys)
 
+  pub filter-append : (p : A → Bool) (l m : List A) → filter p (l ++ m) ≡ filter p l ++ filter p m
+  filter-append p [] m = refl
+  filter-append p (x ∷ xs) m =
+      ⊎-elim
+      (λ (e : p x ≡ true). rw (e, filter) (ap (λ (r : List A). x ∷ r) (filter-append p xs m)))
+      (λ (e : p x ≡ false). rw (e, filter) (filter-append p xs m))
+      (cases (p x))
+
   pub filter-length : (p : A → Bool) (l : List A) → length (filter p l) ≤ length l
   filter-length p [] = omega arith
   filter-length p (x ∷ xs) =
@@ -307,3 +315,18 @@ pub map-from : {A : Type 0} (f : ℕ → A) (d : A) (a k i : ℕ) → i < k → 
 map-from f d a zero i h = absurd (omega arith)
 map-from f d a (suc k) zero h = ap f (omega arith)
 map-from f d a (suc k) (suc i) h = map-from f d (suc a) k i (omega arith) ∙ ap f (omega arith)
+
+-- two functions that agree below the end of a range
+pub map-same : {A : Type 0} (f g : ℕ → A) (a k : ℕ) → ((i : ℕ) → i < a + k → f i ≡ g i) → map f (from a k) ≡ map g (from a k)
+map-same f g a zero h = refl
+map-same f g a (suc k) h = rw (h a (omega arith), map-same f g (suc a) k (λ i b. h i (omega arith)))
+
+-- one more of a range
+from-more : (a k : ℕ) → from a (suc k) ≡ from a k ++ ((a + k) ∷ [])
+from-more a zero = ap (λ (n : ℕ). n ∷ []) (omega arith)
+from-more a (suc k) =
+    let e : suc a + k ≡ a + suc k = omega arith in
+    ap (λ (l : List ℕ). a ∷ l) (from-more (suc a) k ∙ ap (λ (n : ℕ). from (suc a) k ++ (n ∷ [])) e)
+
+pub upTo-more : (n : ℕ) → upTo (n + 1) ≡ upTo n ++ (n ∷ [])
+upTo-more n = let e : n + 1 ≡ suc n = omega arith in let z : 0 + n ≡ n = omega arith in rw e (from-more 0 n ∙ ap (λ (k : ℕ). upTo n ++ (k ∷ [])) z)

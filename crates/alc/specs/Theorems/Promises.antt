@@ -353,6 +353,9 @@ module _ (bs : List ℕ) (port class : ℕ) (rs ms os : List ℕ) where
         (query-cases s p));
   }
 
+  pub causes-kept : {o : Reply} → o ≡ causesReply bs port class rs ms os → CausesPromise bs port class rs ms os o
+  causes-kept e = subst (λ (x : Reply). CausesPromise bs port class rs ms os x) (sym e) causes-promise
+
   pub causes-unique : (o o′ : Reply) → CausesPromise bs port class rs ms os o → CausesPromise bs port class rs ms os o′ → o ≡ o′
   causes-unique o o′ p q = p .exact ∙ sym (q .exact)
 
