@@ -1,0 +1,180 @@
+// Questions about sheets on standard input, one a line, and one line of answer for each.
+//   sat HEX ROOM MARKS WORDS: the reply's number and value, and all words of the model buffer as it ends, or `untouched`
+//   causes HEX PORT CLASS ROOM MARKS SLOTS: the same, with the slots of the list buffer
+//   balance HEX ROOM: `bal` and what is left, or the refusal's number and value
+// HEX is the sheet in hexadecimal without blanks, and - for an empty one. Any other question is answered `what?`.
+// Lines without words, and those whose first word starts with #, are passed over.
+// It rests on desk and sheet for the answers, and on lines for reading and printing.
+use desk::Answer;
+use lines::input;
+use lines::input::Input;
+use lines::ones;
+use lines::print;
+use lines::words;
+use lines::words::Said;
+use sheet::balance::Margin;
+ghost use Prim.Native.Nat.{_≤_};
+
+// To a question that is not understood, or asks for more than there is.
+fn what() {
+    io::write_all(1, b"what?\n");
+}
+
+// A reply's number and value. It answers whether that is a refusal, which leaves all buffers alone.
+fn print_reply(a: Answer) -> bool {
+    let number = desk::answer_number(a);
+    print::head(number, desk::answer_value(a) as u64);
+    number < 10
+}
+
+// Asks with r records and m marks.
+fn ask_model(bytes: &[u8], r: usize, m: usize, model: &mut [u32])
+    requires { ⌜ r ≤ 5000 ⌝ }
+    requires { ⌜ m ≤ 8192 ⌝ }
+{
+    let mut records = ones::of_64();
+    let mut marks = ones::of_8();
+    let a = desk::satisfy(bytes, &mut records[0..r], &mut marks[0..m], model);
+    ones::print_32(model, print_reply(a));
+}
+
+// Asks with w words for the model.
+fn lend_model(bytes: &[u8], r: usize, m: usize, w: usize)
+    requires { ⌜ r ≤ 5000 ⌝ }
+    requires { ⌜ m ≤ 8192 ⌝ }
+    requires { ⌜ w ≤ 65536 ⌝ }
+{
+    let mut model = ones::of_32();
+    ask_model(bytes, r, m, &mut model[0..w]);
+}
+
+fn satisfy(line: &[u8], bytes: &[u8]) {
+    let r = words::size(line, 2);
+    if r > 5000 {
+        return what();
+    }
+    let m = words::size(line, 3);
+    if m > 8192 {
+        return what();
+    }
+    let w = words::size(line, 4);
+    if w > 65536 {
+        return what();
+    }
+    lend_model(bytes, r, m, w);
+}
+
+// Asks with r records and m marks.
+fn ask_list(bytes: &[u8], port: u64, class: u64, r: usize, m: usize, list: &mut [u16])
+    requires { ⌜ r ≤ 5000 ⌝ }
+    requires { ⌜ m ≤ 8192 ⌝ }
+{
+    let mut records = ones::of_64();
+    let mut marks = ones::of_8();
+    let a = desk::causes(
+        bytes,
+        port,
+        class,
+        &mut records[0..r],
+        &mut marks[0..m],
+        list,
+    );
+    ones::print_16(list, print_reply(a));
+}
+
+// Asks with s slots for the list.
+fn lend_list(bytes: &[u8], port: u64, class: u64, r: usize, m: usize, s: usize)
+    requires { ⌜ r ≤ 5000 ⌝ }
+    requires { ⌜ m ≤ 8192 ⌝ }
+    requires { ⌜ s ≤ 4096 ⌝ }
+{
+    let mut list = ones::of_16();
+    ask_list(bytes, port, class, r, m, &mut list[0..s]);
+}
+
+fn causes(line: &[u8], bytes: &[u8]) {
+    let Said::Is(port) = words::number(line, 2) else {
+        return what();
+    };
+    let Said::Is(class) = words::number(line, 3) else {
+        return what();
+    };
+    let r = words::size(line, 4);
+    if r > 5000 {
+        return what();
+    }
+    let m = words::size(line, 5);
+    if m > 8192 {
+        return what();
+    }
+    let s = words::size(line, 6);
+    if s > 4096 {
+        return what();
+    }
+    lend_list(bytes, port, class, r, m, s);
+}
+
+fn print_margin(margin: Margin) {
+    match margin {
+        Margin::Left(left) => print::signed(b"bal ", left),
+        Margin::Refused(why, place) => print::pair(sheet::reason_number(why), place as u64),
+    }
+}
+
+fn balance(line: &[u8], bytes: &[u8]) {
+    let Said::Is(room) = words::number(line, 2) else {
+        return what();
+    };
+    print_margin(sheet::balance::balance(bytes, room));
+}
+
+// What the line asks about the sheet that it says.
+fn question(line: &[u8], bytes: &[u8]) {
+    if words::asks(line, b"sat", 5) {
+        return satisfy(line, bytes);
+    }
+    if words::asks(line, b"causes", 7) {
+        return causes(line, bytes);
+    }
+    if words::asks(line, b"balance", 3) {
+        return balance(line, bytes);
+    }
+    what();
+}
+
+fn answer(line: &[u8]) {
+    if words::says_nothing(line) {
+        return;
+    }
+    let mut bytes = io::buffer();
+    let n = words::bytes(line, 1, &mut bytes);
+    if n > 4096 {
+        return what();
+    }
+    question(line, &bytes[0..n]);
+}
+
+fn answer_next(before: Input, chunk: &mut [u8; input::SIZE]) -> Input
+    requires { ⌜ before .got ≤ 65536 ⌝ }
+    ensures { λ r. ⌜ r .got ≤ 65536 ⌝ }
+{
+    let mut line = io::large_buffer();
+    let next = input::next_line(before, chunk, &mut line);
+    let n = next.length;
+    answer(&line[0..n]);
+    next
+}
+
+// Answers every line of standard input. Nothing says that it ever ends, so the lines are counted.
+pub fn answer_all() {
+    let mut chunk = io::large_buffer();
+    let mut next = input::start();
+    let mut turns: u64 = 18446744073709551615;
+    while turns > 0 {
+        turns -= 1;
+        next = answer_next(next, &mut chunk);
+        if next.got == 0 {
+            return;
+        }
+    }
+}
