@@ -1,0 +1,164 @@
+//! Questions and answers as lines of text: `sat HEX ROOM MARKS WORDS`, `causes HEX PORT CLASS ROOM MARKS SLOTS`,
+//! `balance HEX ROOM`. What is beyond the desk's buffers or not understood is answered `what?`.
+
+use crate::engine::{Answer, Engine};
+use crate::sheet::balance;
+
+pub const MOST_ROOM: u64 = 5_000;
+pub const MOST_MARKS: u64 = 8_192;
+pub const MOST_WORDS: u64 = 65_536;
+pub const MOST_SLOTS: u64 = 4_096;
+pub const MOST_BYTES: usize = 4_096;
+
+pub struct Desk {
+    engine: Engine,
+    sheet: Vec<u8>,
+    words: Vec<u32>,
+    slots: Vec<u16>,
+}
+
+impl Default for Desk {
+    fn default() -> Self {
+        Desk::new()
+    }
+}
+
+impl Desk {
+    pub fn new() -> Desk {
+        Desk { engine: Engine::new(), sheet: Vec::new(), words: Vec::new(), slots: Vec::new() }
+    }
+
+    /// Puts the line of answer behind `out`; nothing for a blank line or a remark.
+    pub fn answer(&mut self, line: &[u8], out: &mut Vec<u8>) {
+        if line.starts_with(b"#") || line.iter().all(u8::is_ascii_whitespace) {
+            return;
+        }
+        if self.understood(line, out).is_none() {
+            out.extend_from_slice(b"what?");
+        }
+        out.push(b'\n');
+    }
+
+    /// Answers the question, or gives None before anything was put out.
+    fn understood(&mut self, line: &[u8], out: &mut Vec<u8>) -> Option<()> {
+        let mut words = line.split(u8::is_ascii_whitespace).filter(|word| !word.is_empty());
+        let verb = words.next()?;
+        let mut parts = [&b""[..]; 6];
+        let mut count = 0;
+        for word in words {
+            *parts.get_mut(count)? = word;
+            count += 1;
+        }
+        match (verb, count) {
+            (b"sat", 4) => self.sat(&parts, out),
+            (b"causes", 6) => self.causes(&parts, out),
+            (b"balance", 2) => self.balance(&parts, out),
+            _ => None,
+        }
+    }
+
+    fn sat(&mut self, parts: &[&[u8]], out: &mut Vec<u8>) -> Option<()> {
+        self.take_sheet(parts[0])?;
+        let room = number(parts[1], MOST_ROOM)?;
+        let marks = number(parts[2], MOST_MARKS)?;
+        self.words.resize(number(parts[3], MOST_WORDS)? as usize, 0);
+        let answer = self.engine.sat(&self.sheet, room, marks, &mut self.words);
+        put_answer(answer, self.words.iter().map(|&word| word as u64), out);
+        Some(())
+    }
+
+    fn causes(&mut self, parts: &[&[u8]], out: &mut Vec<u8>) -> Option<()> {
+        self.take_sheet(parts[0])?;
+        let port = number(parts[1], u64::MAX)?;
+        let class = number(parts[2], u64::MAX)?;
+        let room = number(parts[3], MOST_ROOM)?;
+        let marks = number(parts[4], MOST_MARKS)?;
+        self.slots.resize(number(parts[5], MOST_SLOTS)? as usize, 0);
+        let answer = self.engine.causes(&self.sheet, port, class, room, marks, &mut self.slots);
+        put_answer(answer, self.slots.iter().map(|&slot| slot as u64), out);
+        Some(())
+    }
+
+    fn balance(&mut self, parts: &[&[u8]], out: &mut Vec<u8>) -> Option<()> {
+        self.take_sheet(parts[0])?;
+        let room = number(parts[1], u64::MAX - 1)?;
+        match balance(&self.sheet, room) {
+            Ok(balance) => {
+                out.extend_from_slice(b"bal ");
+                if balance < 0 {
+                    out.push(b'-');
+                }
+                put_number(balance.unsigned_abs(), out);
+            }
+            Err(refusal) => put_pair(refusal.into(), out),
+        }
+        Some(())
+    }
+
+    fn take_sheet(&mut self, hex: &[u8]) -> Option<()> {
+        self.sheet.clear();
+        if hex == b"-" {
+            return Some(());
+        }
+        if hex.len() % 2 == 1 || hex.len() > 2 * MOST_BYTES {
+            return None;
+        }
+        for pair in hex.chunks_exact(2) {
+            self.sheet.push(digit(pair[0])? << 4 | digit(pair[1])?);
+        }
+        Some(())
+    }
+}
+
+fn digit(character: u8) -> Option<u8> {
+    (character as char).to_digit(16).map(|digit| digit as u8)
+}
+
+/// Decimal digits only, at most `most`.
+fn number(text: &[u8], most: u64) -> Option<u64> {
+    let mut value: u64 = 0;
+    for &character in text {
+        if !character.is_ascii_digit() {
+            return None;
+        }
+        value = value.checked_mul(10)?.checked_add((character - b'0') as u64)?;
+    }
+    (value <= most).then_some(value)
+}
+
+fn put_answer(answer: Answer, buffer: impl Iterator<Item = u64>, out: &mut Vec<u8>) {
+    put_pair(answer, out);
+    out.extend_from_slice(b" : ");
+    if answer.is_refusal() {
+        out.extend_from_slice(b"untouched");
+        return;
+    }
+    // Blanks stand between words only, so an empty buffer leaves the blank behind the colon at the end.
+    for (at, word) in buffer.enumerate() {
+        if at > 0 {
+            out.push(b' ');
+        }
+        put_number(word, out);
+    }
+}
+
+fn put_pair(answer: Answer, out: &mut Vec<u8>) {
+    put_number(answer.number as u64, out);
+    out.push(b' ');
+    put_number(answer.value, out);
+}
+
+fn put_number(mut number: u64, out: &mut Vec<u8>) {
+    if number < 10 {
+        out.push(b'0' + number as u8);
+        return;
+    }
+    let mut digits = [0; 20];
+    let mut at = digits.len();
+    while number > 0 {
+        at -= 1;
+        digits[at] = b'0' + (number % 10) as u8;
+        number /= 10;
+    }
+    out.extend_from_slice(&digits[at..]);
+}

@@ -1,0 +1,14 @@
+//! The second program of document 01 ("Pinning every answer down"): an independent engine, plain
+//! and fast, with which the proved one is compared. Written from document 01 and RULINGS.md alone.
+
+pub mod causes;
+pub mod desk;
+pub mod engine;
+pub mod form;
+pub mod label;
+pub mod model;
+pub mod random;
+pub mod search;
+pub mod sheet;
+pub mod table;
+pub mod verdict;
