@@ -1,6 +1,7 @@
 // The desk: the public functions. Any bytes, any numbers, any buffers: each answer is named, and for each it is settled what every buffer holds.
 // What is right stands in alc's specs/Replies.antt and specs/Promises.antt; specs/Desk.antt says what an answer's number and value are.
 pub mod decide; // the verdict on a sheet, and its model
+pub mod export; // for C and Rust
 pub mod query; // the cause list of a port and a class
 
 use crate::decide::clear_records;

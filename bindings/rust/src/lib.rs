@@ -1,0 +1,544 @@
+//! Bargaindune for Rust: can a sheet of classes, rules and ports be met, and which rules force a port into a class?
+//!
+//! The answers come from a proved engine, linked as `libdesk.a`. The repository's docs/FORMAT.md says what a sheet, a model and a
+//! cause list are, byte for byte, and docs/PROMISES.md what is proved of the answers.
+//!
+//! [`satisfy`], [`causes`] and [`balance`] take buffers from the caller, of any length, and allocate nothing. [`Desk`] owns buffers
+//! that suffice. A call takes up to half a megabyte of stack and keeps nothing, so threads may ask at once.
+//!
+//! ```
+//! use bargaindune::{Desk, Listed, Verdict};
+//!
+//! // names 0, 1, 2; rules 0 ⊑ 1, 1 ⊑ 2, 0 ⊑ 2; port 0 is in line 0
+//! let sheet = [3, 2, 0, 2, 1, 2, 2, 3, 0, 1, 1, 2, 0, 2, 1, 1, 0, 0, 0];
+//! let mut desk = Desk::new();
+//! // rules 0 and 1 together force the port into line 2, and so does rule 2 alone
+//! assert_eq!(desk.causes(&sheet, 0, 2), Ok(Listed::Causes(&[0b011, 0b100])));
+//! // one element, in which the names 0, 1 and 2 are true, and no edge
+//! assert_eq!(desk.satisfy(&sheet), Ok(Verdict::Model(&[1, 0b111, 0])));
+//! ```
+#![deny(missing_docs)]
+#![deny(unsafe_op_in_unsafe_fn)]
+
+use std::fmt;
+
+/// The most records that may be lent: with more the answer is [`Reason::LentBadly`].
+///
+/// A sheet with e some and only lines needs at most e·2^(e-1), so this many suffice up to e = 9. [`balance`] counts them.
+///
+/// ```
+/// // line 0 is top, and nine lines follow: an 0-neighbour is in line 0
+/// let mut sheet = vec![10, 0];
+/// sheet.extend([6, 0, 0].repeat(9));
+/// sheet.extend([0, 0, 0, 0]);
+/// assert_eq!(bargaindune::balance(&sheet, bargaindune::MOST_RECORDS as u64), Ok(4096 - 9 * 256));
+/// ```
+pub const MOST_RECORDS: usize = 4096;
+
+/// Words that suffice for every model: at most 8 individuals and 4,096 more elements, 31 edges asked for by each, and 16 role assertions.
+///
+/// ```
+/// let elements = 8 + bargaindune::MOST_RECORDS;
+/// assert_eq!(bargaindune::MOST_WORDS, 2 + elements + 3 * (31 * elements + 16));
+/// ```
+pub const MOST_WORDS: usize = 385_826;
+
+/// Slots that suffice for every cause list: one for each set of 12 rules.
+///
+/// ```
+/// assert_eq!(bargaindune::MOST_SLOTS, 1 << 12);
+/// ```
+pub const MOST_SLOTS: usize = 4096;
+
+/// Why the desk refuses, in the order of the numbers 1 to 8.
+///
+/// ```
+/// use bargaindune::{balance, Reason};
+///
+/// // a number that another byte should follow
+/// assert_eq!(balance(&[0x80], 0).unwrap_err().reason, Reason::Cut);
+/// assert_eq!(Reason::Cut.number(), 1);
+/// ```
+#[derive(Clone, Copy, Debug, PartialEq, Eq, Hash)]
+pub enum Reason {
+    /// 1: the sheet ends inside or before a number.
+    Cut,
+    /// 2: a badly formed number.
+    BadlyFormed,
+    /// 3: a count over its limit.
+    OverLimit,
+    /// 4: a kind, name or role too large.
+    TooLarge,
+    /// 5: a line or individual that may not be named there.
+    NotThere,
+    /// 6: bytes left over.
+    LeftOver,
+    /// 7: over 4,096 records lent, or fewer mark bytes than records.
+    LentBadly,
+    /// 8: port or class of a query not on the sheet.
+    OffSheet,
+}
+
+impl Reason {
+    /// The number of the reason, 1 to 8.
+    ///
+    /// ```
+    /// assert_eq!(bargaindune::Reason::OffSheet.number(), 8);
+    /// ```
+    pub fn number(self) -> u64 {
+        match self {
+            Reason::Cut => 1,
+            Reason::BadlyFormed => 2,
+            Reason::OverLimit => 3,
+            Reason::TooLarge => 4,
+            Reason::NotThere => 5,
+            Reason::LeftOver => 6,
+            Reason::LentBadly => 7,
+            Reason::OffSheet => 8,
+        }
+    }
+
+    fn from_number(number: u64) -> Option<Reason> {
+        Some(match number {
+            1 => Reason::Cut,
+            2 => Reason::BadlyFormed,
+            3 => Reason::OverLimit,
+            4 => Reason::TooLarge,
+            5 => Reason::NotThere,
+            6 => Reason::LeftOver,
+            7 => Reason::LentBadly,
+            8 => Reason::OffSheet,
+            _ => return None,
+        })
+    }
+}
+
+impl fmt::Display for Reason {
+    fn fmt(&self, f: &mut fmt::Formatter<'_>) -> fmt::Result {
+        f.write_str(match self {
+            Reason::Cut => "the sheet ends inside or before a number",
+            Reason::BadlyFormed => "a badly formed number",
+            Reason::OverLimit => "a count over its limit",
+            Reason::TooLarge => "a kind, name or role too large",
+            Reason::NotThere => "a line or individual that may not be named there",
+            Reason::LeftOver => "bytes left over",
+            Reason::LentBadly => "over 4,096 records lent, or fewer mark bytes than records",
+            Reason::OffSheet => "port or class not on the sheet",
+        })
+    }
+}
+
+/// A refusal: its reason and its place.
+///
+/// ```
+/// use bargaindune::{balance, Reason, Refusal};
+///
+/// // one line, `not 0`, which may name only lines before it
+/// let refusal = balance(&[1, 3, 0], 0).unwrap_err();
+/// assert_eq!(refusal, Refusal { reason: Reason::NotThere, place: 2 });
+/// assert_eq!(refusal.to_string(), "a line or individual that may not be named there, at byte 2 of the sheet");
+/// ```
+#[derive(Clone, Copy, Debug, PartialEq, Eq, Hash)]
+pub struct Refusal {
+    /// Why.
+    pub reason: Reason,
+    /// The index of the faulty number's first byte, the sheet's length if it has none, and under [`Reason::LeftOver`] the first spare byte.
+    /// [`Reason::LentBadly`] and [`Reason::OffSheet`] have no place, and 0 stands here.
+    pub place: usize,
+}
+
+impl fmt::Display for Refusal {
+    fn fmt(&self, f: &mut fmt::Formatter<'_>) -> fmt::Result {
+        match self.reason {
+            Reason::LentBadly | Reason::OffSheet => self.reason.fmt(f),
+            _ => write!(f, "{}, at byte {} of the sheet", self.reason, self.place),
+        }
+    }
+}
+
+impl std::error::Error for Refusal {}
+
+/// The answers of [`satisfy`] and [`causes`], each with what it carries.
+///
+/// Under [`Answer::Refused`] no buffer is touched. Under the others all records and all mark bytes lent end as zero, and the model or
+/// list buffer holds the result with zeros behind it, or zeros alone.
+///
+/// ```
+/// use bargaindune::{satisfy, Answer};
+///
+/// // an empty sheet: one element without names, no edge
+/// let mut model = [9; 4];
+/// let answer = satisfy(&[0, 0, 0, 0, 0], &mut [], &mut [], &mut model);
+/// assert_eq!(answer, Answer::Model { words: 3 });
+/// assert_eq!(model, [1, 0, 0, 0]);
+/// assert_eq!((answer.number(), answer.carries()), (10, 3));
+/// ```
+#[derive(Clone, Copy, Debug, PartialEq, Eq, Hash)]
+pub enum Answer {
+    /// 1 to 8: the desk refuses.
+    Refused(Refusal),
+    /// 10: satisfiable, and the model is written.
+    Model {
+        /// How many words of the model buffer it takes.
+        words: usize,
+    },
+    /// 11: satisfiable, and the model is longer than its buffer, which ends as zeros.
+    LongModel {
+        /// How many words it wants.
+        words: usize,
+    },
+    /// 12: no finite interpretation meets the sheet. The model buffer ends as zeros.
+    Unsatisfiable,
+    /// 13: the records needed outnumber those lent. The model or list buffer ends as zeros.
+    OutOfSpace,
+    /// 14: the cause list is written.
+    Causes {
+        /// How many slots of the list buffer it takes.
+        sets: usize,
+    },
+    /// 15: the cause list is longer than its buffer, which ends as zeros.
+    LongList {
+        /// How many causes there are.
+        sets: usize,
+    },
+}
+
+impl Answer {
+    /// The number of the answer: 1 to 8, or 10 to 15.
+    ///
+    /// ```
+    /// assert_eq!(bargaindune::Answer::Unsatisfiable.number(), 12);
+    /// ```
+    pub fn number(self) -> u64 {
+        match self {
+            Answer::Refused(refusal) => refusal.reason.number(),
+            Answer::Model { .. } => 10,
+            Answer::LongModel { .. } => 11,
+            Answer::Unsatisfiable => 12,
+            Answer::OutOfSpace => 13,
+            Answer::Causes { .. } => 14,
+            Answer::LongList { .. } => 15,
+        }
+    }
+
+    /// What it carries: a place, a length, or 0.
+    ///
+    /// ```
+    /// assert_eq!(bargaindune::Answer::LongList { sets: 2 }.carries(), 2);
+    /// ```
+    pub fn carries(self) -> usize {
+        match self {
+            Answer::Refused(refusal) => refusal.place,
+            Answer::Model { words } | Answer::LongModel { words } => words,
+            Answer::Unsatisfiable | Answer::OutOfSpace => 0,
+            Answer::Causes { sets } | Answer::LongList { sets } => sets,
+        }
+    }
+}
+
+mod exported {
+    extern "C" {
+        pub fn bargaindune_satisfy(
+            sheet: *const u8,
+            sheet_length: usize,
+            records: *mut u64,
+            records_length: usize,
+            marks: *mut u8,
+            marks_length: usize,
+            model: *mut u32,
+            model_length: usize,
+            carried: *mut u64,
+        ) -> u64;
+        pub fn bargaindune_causes(
+            sheet: *const u8,
+            sheet_length: usize,
+            port: u64,
+            class: u64,
+            records: *mut u64,
+            records_length: usize,
+            marks: *mut u8,
+            marks_length: usize,
+            list: *mut u16,
+            list_length: usize,
+            carried: *mut u64,
+        ) -> u64;
+        pub fn bargaindune_balance(
+            sheet: *const u8,
+            sheet_length: usize,
+            room: u64,
+            carried: *mut u64,
+            left: *mut i64,
+        ) -> u64;
+    }
+}
+
+/// A place or a length that was carried: it fits, since it counts what a sheet or a model has.
+fn as_length(carried: u64) -> usize {
+    usize::try_from(carried).expect("a carried length fits")
+}
+
+/// What is said is proved of the engine, so anything else means that another archive was linked.
+fn strange(number: u64, carried: u64) -> ! {
+    panic!("libdesk.a answered {number}, carrying {carried}, which is no answer here")
+}
+
+fn refusal(number: u64, carried: u64) -> Refusal {
+    match Reason::from_number(number) {
+        Some(reason) => Refusal {
+            reason,
+            place: as_length(carried),
+        },
+        None => strange(number, carried),
+    }
+}
+
+/// Is the sheet satisfiable? With its model, or the length that it wants.
+///
+/// Any lengths may be lent; over 4,096 records, or fewer marks than records, are refused with [`Reason::LentBadly`]. The answer is never
+/// [`Answer::Causes`] or [`Answer::LongList`], and the reason of a refusal is never [`Reason::OffSheet`].
+///
+/// ```
+/// use bargaindune::{satisfy, Answer};
+///
+/// // line 0 is top, line 1 asks for a neighbour; every element is in line 1
+/// let sheet = [2, 0, 6, 0, 0, 1, 0, 1, 0, 0, 0];
+/// let mut model = [9; 12];
+/// // the neighbour takes a record
+/// assert_eq!(satisfy(&sheet, &mut [], &mut [], &mut model), Answer::OutOfSpace);
+/// assert_eq!(satisfy(&sheet, &mut [0], &mut [0], &mut model), Answer::Model { words: 10 });
+/// // two elements without names; two edges, from 0 along role 0 to 1, and from 1 to itself
+/// assert_eq!(model, [2, 0, 0, 2, 0, 0, 1, 1, 0, 1, 0, 0]);
+/// ```
+pub fn satisfy(sheet: &[u8], records: &mut [u64], marks: &mut [u8], model: &mut [u32]) -> Answer {
+    let room = model.len();
+    let mut carried = 0;
+    // SAFETY: a reference to a slice points to as many entries as its length says, aligned and not null, and mutable ones overlap nothing.
+    let number = unsafe {
+        exported::bargaindune_satisfy(
+            sheet.as_ptr(),
+            sheet.len(),
+            records.as_mut_ptr(),
+            records.len(),
+            marks.as_mut_ptr(),
+            marks.len(),
+            model.as_mut_ptr(),
+            model.len(),
+            &mut carried,
+        )
+    };
+    let words = as_length(carried);
+    match number {
+        1..=7 => Answer::Refused(refusal(number, carried)),
+        10 if words <= room => Answer::Model { words },
+        11 if room < words => Answer::LongModel { words },
+        12 => Answer::Unsatisfiable,
+        13 => Answer::OutOfSpace,
+        _ => strange(number, carried),
+    }
+}
+
+/// Which smallest sets of rules force the port, an individual's number, into the class, a line's number? Each set takes a slot, rule n
+/// worth 2^n; the slots ascend.
+///
+/// Any lengths may be lent; over 4,096 records, or fewer marks than records, are refused with [`Reason::LentBadly`]. A port or class that
+/// is not on the sheet is refused with [`Reason::OffSheet`]. The answer is never [`Answer::Model`], [`Answer::LongModel`] or
+/// [`Answer::Unsatisfiable`]: a sheet that cannot be met forces everything.
+///
+/// ```
+/// use bargaindune::{causes, Answer};
+///
+/// let sheet = [3, 2, 0, 2, 1, 2, 2, 3, 0, 1, 1, 2, 0, 2, 1, 1, 0, 0, 0];
+/// let mut list = [9; 3];
+/// let answer = causes(&sheet, 0, 2, &mut [], &mut [], &mut list);
+/// assert_eq!(answer, Answer::Causes { sets: 2 });
+/// assert_eq!(list, [3, 4, 0]);
+/// assert_eq!(causes(&sheet, 0, 2, &mut [], &mut [], &mut []), Answer::LongList { sets: 2 });
+/// ```
+pub fn causes(
+    sheet: &[u8],
+    port: u64,
+    class: u64,
+    records: &mut [u64],
+    marks: &mut [u8],
+    list: &mut [u16],
+) -> Answer {
+    let slots = list.len();
+    let mut carried = 0;
+    // SAFETY: as in `satisfy`.
+    let number = unsafe {
+        exported::bargaindune_causes(
+            sheet.as_ptr(),
+            sheet.len(),
+            port,
+            class,
+            records.as_mut_ptr(),
+            records.len(),
+            marks.as_mut_ptr(),
+            marks.len(),
+            list.as_mut_ptr(),
+            list.len(),
+            &mut carried,
+        )
+    };
+    let sets = as_length(carried);
+    match number {
+        1..=8 => Answer::Refused(refusal(number, carried)),
+        13 => Answer::OutOfSpace,
+        14 if sets <= slots => Answer::Causes { sets },
+        15 if slots < sets => Answer::LongList { sets },
+        _ => strange(number, carried),
+    }
+}
+
+/// What is left of a room of so many records if the sheet needs as many as it can: the room minus e·2^(e-1), where e is the number of some
+/// and only lines, and minus 0 where e is 0. Below zero is an answer and no error.
+///
+/// A room over 4,096 is refused with [`Reason::LentBadly`], before the sheet is looked at.
+///
+/// ```
+/// // one some line
+/// let sheet = [2, 0, 6, 0, 0, 1, 0, 1, 0, 0, 0];
+/// assert_eq!(bargaindune::balance(&sheet, 1), Ok(0));
+/// assert_eq!(bargaindune::balance(&sheet, 0), Ok(-1));
+/// ```
+pub fn balance(sheet: &[u8], room: u64) -> Result<i64, Refusal> {
+    let mut carried = 0;
+    let mut left = 0;
+    // SAFETY: as in `satisfy`.
+    let number = unsafe {
+        exported::bargaindune_balance(sheet.as_ptr(), sheet.len(), room, &mut carried, &mut left)
+    };
+    match number {
+        0 => Ok(left),
+        1..=7 => Err(refusal(number, carried)),
+        _ => strange(number, carried),
+    }
+}
+
+/// What [`Desk::satisfy`] finds.
+///
+/// ```
+/// use bargaindune::{Desk, Verdict};
+///
+/// // every element is in line 0, top, and so in line 1, bottom
+/// assert_eq!(Desk::new().satisfy(&[2, 0, 1, 1, 0, 1, 0, 0, 0]), Ok(Verdict::Unsatisfiable));
+/// ```
+#[derive(Clone, Copy, Debug, PartialEq, Eq, Hash)]
+pub enum Verdict<'a> {
+    /// Satisfiable, with the words of the model.
+    Model(&'a [u32]),
+    /// No finite interpretation meets the sheet.
+    Unsatisfiable,
+    /// The sheet needs over 4,096 records.
+    OutOfSpace,
+}
+
+/// What [`Desk::causes`] finds.
+///
+/// ```
+/// use bargaindune::{Desk, Listed};
+///
+/// // one line, one port, nothing asserted: no set of rules forces the port into the line
+/// assert_eq!(Desk::new().causes(&[1, 2, 0, 0, 1, 0, 0], 0, 0), Ok(Listed::Causes(&[])));
+/// ```
+#[derive(Clone, Copy, Debug, PartialEq, Eq, Hash)]
+pub enum Listed<'a> {
+    /// The smallest sets of rules that force the port into the class, rule n worth 2^n, ascending.
+    Causes(&'a [u16]),
+    /// Some set of rules that has to be judged needs over 4,096 records.
+    OutOfSpace,
+}
+
+/// Buffers for any sheet, made once: 4,096 records and marks, slots for any cause list, and words for a model, more where one is longer.
+///
+/// ```
+/// use bargaindune::{Desk, Verdict};
+///
+/// let mut desk = Desk::new();
+/// assert_eq!(desk.satisfy(&[0, 0, 0, 0, 0]), Ok(Verdict::Model(&[1, 0, 0])));
+/// ```
+#[derive(Clone, Debug)]
+pub struct Desk {
+    records: Vec<u64>,
+    marks: Vec<u8>,
+    model: Vec<u32>,
+    list: Vec<u16>,
+}
+
+impl Desk {
+    /// A desk with empty buffers.
+    ///
+    /// ```
+    /// let desk = bargaindune::Desk::new();
+    /// # let _ = desk;
+    /// ```
+    pub fn new() -> Desk {
+        Desk {
+            records: vec![0; MOST_RECORDS],
+            marks: vec![0; MOST_RECORDS],
+            model: vec![0; 64],
+            list: vec![0; MOST_SLOTS],
+        }
+    }
+
+    /// Is the sheet satisfiable? With its model, whatever its length: where it is longer than the buffer, that grows, and the question is
+    /// asked again.
+    ///
+    /// ```
+    /// use bargaindune::{Desk, Reason};
+    ///
+    /// // 33 lines
+    /// let refusal = Desk::new().satisfy(&[33]).unwrap_err();
+    /// assert_eq!((refusal.reason, refusal.place), (Reason::OverLimit, 0));
+    /// ```
+    pub fn satisfy(&mut self, sheet: &[u8]) -> Result<Verdict<'_>, Refusal> {
+        let mut answer = self.ask(sheet);
+        if let Answer::LongModel { words } = answer {
+            self.model.resize(words, 0);
+            answer = self.ask(sheet);
+        }
+        match answer {
+            Answer::Refused(refusal) => Err(refusal),
+            Answer::Model { words } => Ok(Verdict::Model(&self.model[..words])),
+            Answer::Unsatisfiable => Ok(Verdict::Unsatisfiable),
+            Answer::OutOfSpace => Ok(Verdict::OutOfSpace),
+            _ => strange(answer.number(), answer.carries() as u64),
+        }
+    }
+
+    fn ask(&mut self, sheet: &[u8]) -> Answer {
+        satisfy(sheet, &mut self.records, &mut self.marks, &mut self.model)
+    }
+
+    /// Which smallest sets of rules force the port into the class? All of them: the list buffer has a slot for every set.
+    ///
+    /// ```
+    /// use bargaindune::{Desk, Reason};
+    ///
+    /// // an empty sheet has no port
+    /// let refusal = Desk::new().causes(&[0, 0, 0, 0, 0], 0, 0).unwrap_err();
+    /// assert_eq!(refusal.reason, Reason::OffSheet);
+    /// ```
+    pub fn causes(&mut self, sheet: &[u8], port: u64, class: u64) -> Result<Listed<'_>, Refusal> {
+        let answer = causes(
+            sheet,
+            port,
+            class,
+            &mut self.records,
+            &mut self.marks,
+            &mut self.list,
+        );
+        match answer {
+            Answer::Refused(refusal) => Err(refusal),
+            Answer::Causes { sets } => Ok(Listed::Causes(&self.list[..sets])),
+            Answer::OutOfSpace => Ok(Listed::OutOfSpace),
+            _ => strange(answer.number(), answer.carries() as u64),
+        }
+    }
+}
+
+impl Default for Desk {
+    fn default() -> Desk {
+        Desk::new()
+    }
+}

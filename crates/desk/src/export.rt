@@ -1,0 +1,71 @@
+// What C and Rust are handed: the public functions with a code and a carried value in the place of an enum. bindings/ has the callers.
+// Each keeps the whole promise of the function that it calls, and asks for nothing: any bytes, any numbers, any buffers.
+use crate::answer_number;
+use crate::answer_value;
+use crate::causes;
+use crate::satisfy;
+use sheet::balance::Margin;
+use sheet::balance::balance;
+use sheet::reason_number;
+ghost use Rattle.alc.specs.Promises.{SatisfyPromise, CausesPromise, BalancePromise};
+ghost use Rattle.desk.specs.Export.{reply, balanced, NoMore};
+
+// `satisfy`: document 01's number, and what it carries.
+#[no_mangle]
+pub extern "C" fn bargaindune_satisfy(
+    sheet: &[u8],
+    records: &mut [u64],
+    marks: &mut [u8],
+    model: &mut [u32],
+    carried: &mut u64,
+) -> u64
+    ensures { λ r. ⌜ SatisfyPromise (now (sheet .entry)) (now (records .entry)) (now (marks .entry)) (now (model .entry)) (reply r (now (carried .exit)) (now (records .exit)) (now (marks .exit)) (now (model .exit))) ⌝ }
+{
+    let answer = satisfy(sheet, records, marks, model);
+    *carried = answer_value(answer) as u64;
+    answer_number(answer)
+}
+
+// `causes`: document 01's number, and what it carries.
+#[no_mangle]
+pub extern "C" fn bargaindune_causes(
+    sheet: &[u8],
+    port: u64,
+    class: u64,
+    records: &mut [u64],
+    marks: &mut [u8],
+    list: &mut [u16],
+    carried: &mut u64,
+) -> u64
+    ensures { λ r. ⌜ CausesPromise (now (sheet .entry)) port class (now (records .entry)) (now (marks .entry)) (now (list .entry)) (reply r (now (carried .exit)) (now (records .exit)) (now (marks .exit)) (now (list .exit))) ⌝ }
+{
+    let answer = causes(sheet, port, class, records, marks, list);
+    *carried = answer_value(answer) as u64;
+    answer_number(answer)
+}
+
+// `balance`: 0, which is no number of document 01, with what is left; or the refusal's number, with its place. What is not told is 0.
+#[no_mangle]
+pub extern "C" fn bargaindune_balance(
+    sheet: &[u8],
+    room: u64,
+    carried: &mut u64,
+    left: &mut i64,
+) -> u64
+    ensures { λ r. ⌜ BalancePromise (now (sheet .entry)) room (balanced r (now (carried .exit)) (now (left .exit))) ⌝ }
+    ensures { λ r. ⌜ NoMore r (now (carried .exit)) (now (left .exit)) ⌝ }
+{
+    let margin = balance(sheet, room);
+    match margin {
+        Margin::Refused(why, at) => {
+            *carried = at as u64;
+            *left = 0;
+            reason_number(why)
+        }
+        Margin::Left(rest) => {
+            *carried = 0;
+            *left = rest;
+            0
+        }
+    }
+}
