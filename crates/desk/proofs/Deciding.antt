@@ -16,7 +16,7 @@ use Rattle.alc.specs.Model.{chosen, modelEdges, modelSeeds, modelWords, satisfy
 use Rattle.alc.specs.Theorems.Lists.{each-elim, each-intro, upToFirst-found}
 use Rattle.alc.specs.Theorems.Sheet.{WellFormed}
 use Rattle.alc.specs.Theorems.Reach.{again, grown-in, includeAll-grown, reach-closed, successors-known}
-use Rattle.alc.specs.Theorems.Decides.{chosen-next, first-in, nothing-yet}
+use Rattle.alc.specs.Theorems.Decides.{chosen-next, nothing-yet}
 use Rattle.alc.specs.Theorems.Answers.{reply-short, reply-told}
 use Rattle.tableau.specs.declared.joint.Joint.{Joint}
 use Rattle.tableau.specs.Joints.{jointOf, Fit}
@@ -100,9 +100,6 @@ module _ {s : Sheet} {J : theory.Joint} {before marks : List ℕ} {r : Judged} {
 
     -- one is fine
     module _ (e : r .verdict ≡ Fine n) where
-      found : firstFine s [] ≡ just (jointOf (r .joint))
-      found = found-first judged [] begin n e
-
       pub found-few : n ≤ length before
       found-few = lent-enough judged [] begin n (ap usedBy e)
 
@@ -121,9 +118,6 @@ module _ {s : Sheet} {J : theory.Joint} {before marks : List ℕ} {r : Judged} {
           let (a, a-in, same) = Memᴰ·of-map (λ (a : Ask). a .seed) (asks s k) i in
           ledger .reached q .1 (at-once (jointOf (r .joint)) (upToFirst-found (all (fine s)) (settledJoints s []) (jointOf (r .joint)) one) k k-in a a-in (sym same))
 
-      pub found-fine : WellFormed s → all (fine s) (jointOf (r .joint)) ≡ true
-      found-fine wf = first-in s wf [] (jointOf (r .joint)) found .1
-
       pub answer-model : (out : List ℕ) (a : Answer) (out′ : List ℕ) → Put (modelWords s (jointOf (r .joint))) out a out′ → Decided (satisfyAnswer s (length before)) out a out′
       answer-model out a out′ p =
-          decided-put (modelWords s (jointOf (r .joint))) (reply-told s (length before) (found-enough judged [] begin n e) ∙ ap (told s) found) p
+          decided-put (modelWords s (jointOf (r .joint))) (reply-told s (length before) (found-enough judged [] begin n e) ∙ ap (told s) (found-first judged [] begin n e)) p

@@ -8,37 +8,14 @@ use model::write::count_edges;
 use model::write::write_model;
 use tableau::joint::Joint;
 ghost use mathlib.Core.Path.{_≡_};
-ghost use mathlib.Core.Bool.{true};
 ghost use Prim.Native.Nat.{_≤_};
-ghost use lib.ListN.{length, replicate};
-ghost use Rattle.alc.specs.Lists.{all};
-ghost use Rattle.alc.specs.Seeds.{fine};
+ghost use lib.ListN.{length};
 ghost use Rattle.alc.specs.Model.{modelWords, satisfyAnswer};
 ghost use Rattle.plan.specs.Plan.{planSheet, Prepared};
 ghost use Rattle.tableau.specs.Records.{recorded};
 ghost use Rattle.tableau.specs.Joints.{jointOf, Fit};
 ghost use Rattle.model.specs.Sound.{Sound, AllSeedsIn};
 ghost use Rattle.desk.specs.Desk.{Put, Decided};
-
-pub fn clear_records(records: &mut [u64])
-    ensures { λ _. ⌜ now (records .exit) ≡ replicate (length (now (records .entry))) 0 ⌝ }
-{
-    let mut i = 0;
-    while i < records.len() {
-        records[i] = 0;
-        i += 1;
-    }
-}
-
-pub fn clear_words(words: &mut [u32])
-    ensures { λ _. ⌜ now (words .exit) ≡ replicate (length (now (words .entry))) 0 ⌝ }
-{
-    let mut i = 0;
-    while i < words.len() {
-        words[i] = 0;
-        i += 1;
-    }
-}
 
 // Satisfiable: the model, or how long it is.
 fn put_model(
@@ -53,7 +30,6 @@ fn put_model(
     requires { ⌜ Fit (planSheet (now plan)) j ⌝ }
     requires { ⌜ Sound (planSheet (now plan)) used (now records) (now marks) ⌝ }
     requires { ⌜ AllSeedsIn (planSheet (now plan)) (jointOf j) (recorded used (now records)) ⌝ }
-    requires { ⌜ all (fine (planSheet (now plan))) (jointOf j) ≡ true ⌝ }
     requires { ⌜ used ≤ 4096 ⌝ }
     ensures { λ r. ⌜ Put (modelWords (planSheet (now (plan .entry))) (jointOf j)) (now (out .entry)) r (now (out .exit)) ⌝ }
     ensures { λ r. ⌜ (length (now (records .exit)) ≡ length (now (records .entry))) × (length (now (marks .exit)) ≡ length (now (marks .entry))) ⌝ }

@@ -4,16 +4,16 @@ pub mod decide; // the verdict on a sheet, and its model
 pub mod export; // for C and Rust
 pub mod query; // the cause list of a port and a class
 
-use crate::decide::clear_records;
-use crate::decide::clear_words;
 use crate::decide::decide;
 use crate::query::off_sheet;
 use crate::query::put_causes;
-use engine::judge::clear_marks;
 use plan::prepare;
 use sheet::Outcome;
 use sheet::Reason;
 use sheet::read_sheet;
+use zeros::clear_marks;
+use zeros::clear_records;
+use zeros::clear_words;
 ghost use mathlib.Core.Path.{_≡_};
 ghost use Prim.Native.Nat.{_<_};
 ghost use Rattle.alc.specs.Promises.{SatisfyPromise, CausesPromise};

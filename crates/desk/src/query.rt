@@ -2,26 +2,17 @@
 use crate::Answer;
 use sets::list::Listed;
 use sets::list::list_causes;
+use zeros::clear_slots;
 ghost use mathlib.Core.Path.{_≡_};
 ghost use mathlib.Core.Bool.{not, _&&_};
 ghost use Prim.Native.Nat.{_≤_};
-ghost use lib.ListN.{length, replicate};
+ghost use lib.ListN.{length};
 ghost use lib.Dec.{ltb};
 ghost use Rattle.alc.specs.Sheet.{count};
 ghost use Rattle.alc.specs.Causes.{causesAnswer};
 ghost use Rattle.plan.specs.Plan.{planSheet, Prepared};
 ghost use Rattle.sets.specs.Sets.{OnSheet};
 ghost use Rattle.desk.specs.Desk.{Queried};
-
-pub fn clear_slots(list: &mut [u16])
-    ensures { λ _. ⌜ now (list .exit) ≡ replicate (length (now (list .entry))) 0 ⌝ }
-{
-    let mut i = 0;
-    while i < list.len() {
-        list[i] = 0;
-        i += 1;
-    }
-}
 
 // Port or class of a query is not on the sheet.
 pub fn off_sheet(plan: &[u32; plan::SIZE], port: u64, class: u64) -> bool

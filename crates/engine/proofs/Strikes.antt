@@ -4,8 +4,8 @@ use mathlib.Core.Bool.{Bool, true, false, cond, _&&_, _||_}
 use mathlib.Core.Path.{_≡_, refl, sym, _∙_, ap, subst}
 use mathlib.Core.Logic.{_⊎_, inl, inr, ⊎-elim}
 use mathlib.Core.List.{List, [], _∷_, _++_, append-nil, map, map-map}
-use lib.ListN.{length, getD, set, take, drop, replicate, length-map, drop-of-length-le, replicate-append-replicate}
-use lib.Seq.{drop-cons, getD-take, take-suc-set}
+use lib.ListN.{length, getD, set, take, drop, replicate, length-map, drop-of-length-le}
+use lib.Seq.{drop-cons, getD-take}
 use lib.Dec.{ltb}
 use native.Mathlib.Nat.{zero-add}
 use native.Mathlib.Numerals.{add-one}
@@ -273,11 +273,6 @@ module _ (p : Label → Bool) (J : theory.Joint) (a : ℕ) (whole : Bool) (g : a
 
   pub all-turn : a < length J → (l : Label) → l ≡ label J a → (b : Bool) → b ≡ p l → (b && all p (drop (a + 1) J)) ≡ whole
   all-turn h l is b e = rw (e, is, add-one a) (ap (all p) (sym (drop-cons J a blank h)) ∙ g)
-
--- ---- clearing: one more of the first elements is a
-pub fill-one : {A : Type 0} (l : List A) (i : ℕ) (a : A) → i < length l → take i l ≡ replicate i a → take (i + 1) (set l i a) ≡ replicate (i + 1) a
-fill-one {A} l i a h e =
-    ap (λ (n : ℕ). take n (set l i a)) (add-one i) ∙ take-suc-set l i a h ∙ ap (λ (k : List A). k ++ (a ∷ [])) e ∙ replicate-append-replicate i 1 a
 
 -- ---- where the work begins
 take-replicate : {A : Type 0} (n k : ℕ) (a : A) → k ≤ n → take k (replicate n a) ≡ replicate k a

@@ -13,7 +13,7 @@ ghost use Rattle.engine.specs.Ledger.{Known};
 // The records from `start` on are looked at; those before are closed already.
 pub fn close(plan: &[u32; plan::SIZE], records: &mut [u64], start: usize, count: usize) -> Grown
     requires { ⌜ Prepared (now plan) ⌝ }
-    requires { ⌜ (start ≤ count) × (count ≤ length (now records)) ⌝ }
+    requires { ⌜ count ≤ length (now records) ⌝ }
     requires { ⌜ Known (planSheet (now plan)) (recorded count (now records)) ⌝ }
     ensures { λ r. ⌜ GrownTo (reach (successors (planSheet (now (plan .entry)))) (bound (planSheet (now (plan .entry)))) start (recorded count (now (records .entry)))) (now (records .entry)) r (now (records .exit)) ⌝ }
 {

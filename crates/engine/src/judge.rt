@@ -10,6 +10,7 @@ use tableau::joint::next_step;
 use tableau::records::Grown;
 use tableau::walks::include_seeds;
 use tableau::walks::seeds_stand;
+use zeros::clear_marks;
 ghost use mathlib.Core.Path.{_≡_};
 ghost use mathlib.Core.Bool.{false};
 ghost use mathlib.Core.List.{[], _∷_};
@@ -121,16 +122,6 @@ fn joint_stands(
         a += 1;
     }
     true
-}
-
-pub fn clear_marks(marks: &mut [u8])
-    ensures { λ _. ⌜ now (marks .exit) ≡ replicate (length (now (marks .entry))) 0 ⌝ }
-{
-    let mut i = 0;
-    while i < marks.len() {
-        marks[i] = 0;
-        i += 1;
-    }
 }
 
 // The records from `start` to `used` are new and closed: which of them are satisfiable, and is the joint label fine?

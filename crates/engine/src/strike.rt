@@ -46,7 +46,6 @@ fn strike_pass(
 ) -> bool
     requires { ⌜ Prepared (now plan) ⌝ }
     requires { ⌜ Lent used (now records) (now marks) ⌝ }
-    requires { ⌜ start ≤ used ⌝ }
     ensures { λ r. ⌜ Pass (planSheet (now (plan .entry))) used start (now (records .entry)) (now (marks .entry)) (now (marks .exit)) r ⌝ }
 {
     let mut changed = false;
@@ -70,7 +69,6 @@ pub fn strike(
 )
     requires { ⌜ Prepared (now plan) ⌝ }
     requires { ⌜ Lent used (now records) (now marks) ⌝ }
-    requires { ⌜ start ≤ used ⌝ }
     ensures { λ _. ⌜ Struck (planSheet (now (plan .entry))) used start (now (records .entry)) (now (marks .entry)) (now (marks .exit)) × Stable (planSheet (now (plan .entry))) used start (now (records .entry)) (now (marks .exit)) ⌝ }
 {
     let mut changed = true;

@@ -9,12 +9,11 @@ use tableau::records::word_of;
 use tableau::walks::Picked;
 use tableau::walks::pick;
 ghost use mathlib.Core.Path.{_≡_};
-ghost use mathlib.Core.Bool.{true};
 ghost use mathlib.Core.List.{[]};
 ghost use Prim.Native.Nat.{_+_, _<_, _≤_};
 ghost use lib.ListN.{length};
-ghost use Rattle.alc.specs.Lists.{_∈_, all, each};
-ghost use Rattle.alc.specs.Seeds.{seeds, fine, include, includeAll};
+ghost use Rattle.alc.specs.Lists.{_∈_, each};
+ghost use Rattle.alc.specs.Seeds.{seeds, include, includeAll};
 ghost use Rattle.alc.specs.Model.{modelSeeds, labelAt};
 ghost use Rattle.alc.specs.Model as words;
 ghost use Rattle.plan.specs.Plan.{planSheet, Prepared};
@@ -137,7 +136,6 @@ pub fn order(
     requires { ⌜ Prepared (now plan) ⌝ }
     requires { ⌜ Sound (planSheet (now plan)) used (now records) (now marks) ⌝ }
     requires { ⌜ (j .count ≤ 8) × AllSeedsIn (planSheet (now plan)) (jointOf j) (recorded used (now records)) ⌝ }
-    requires { ⌜ all (fine (planSheet (now plan))) (jointOf j) ≡ true ⌝ }
     ensures { λ r. ⌜ Shuffled used (now (records .entry)) (now (marks .entry)) (now (records .exit)) (now (marks .exit)) × (r ≤ used) × (recorded r (now (records .exit)) ≡ modelSeeds (planSheet (now (plan .entry))) (jointOf j)) ⌝ }
 {
     let mut front = bring_joint(plan, j, records, marks, used);

@@ -16,11 +16,11 @@ use Rattle.desk.proofs.causes.Statement.{statement}
 use Rattle.desk.proofs.causes.Tie as tie
 use Rattle.desk.proofs.causes.Reads as reads
 use Rattle.desk.proofs.causes.Lts as lts
-use Rattle.desk.proofs.decide.clear_records.Reads as clear-records-reads
+use Rattle.zeros.proofs.clear_records.Reads as clear-records-reads
 use Rattle.desk.proofs.open_sheet.Reads as open-sheet-reads
 use Rattle.desk.proofs.query.off_sheet.Reads as off-sheet-reads
 use Rattle.desk.proofs.query.put_causes.Reads as put-causes-reads
-use Rattle.engine.proofs.judge.clear_marks.Reads as clear-marks-reads
+use Rattle.zeros.proofs.clear_marks.Reads as clear-marks-reads
 
 abbrev calls : lts.Claims
 calls = (

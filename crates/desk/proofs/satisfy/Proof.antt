@@ -15,11 +15,11 @@ use Rattle.desk.proofs.satisfy.Statement.{statement}
 use Rattle.desk.proofs.satisfy.Tie as tie
 use Rattle.desk.proofs.satisfy.Reads as reads
 use Rattle.desk.proofs.satisfy.Lts as lts
-use Rattle.desk.proofs.decide.clear_records.Reads as clear-records-reads
-use Rattle.desk.proofs.decide.clear_words.Reads as clear-words-reads
+use Rattle.zeros.proofs.clear_records.Reads as clear-records-reads
+use Rattle.zeros.proofs.clear_words.Reads as clear-words-reads
 use Rattle.desk.proofs.decide.decide.Reads as decide-reads
 use Rattle.desk.proofs.open_sheet.Reads as open-sheet-reads
-use Rattle.engine.proofs.judge.clear_marks.Reads as clear-marks-reads
+use Rattle.zeros.proofs.clear_marks.Reads as clear-marks-reads
 
 abbrev calls : lts.Claims
 calls = (

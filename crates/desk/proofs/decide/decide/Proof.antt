@@ -8,7 +8,7 @@ use Rattle.alc.specs.Theorems.Sheet.{well-formed}
 use Rattle.plan.specs.Plan.{planSheet}
 use Rattle.tableau.specs.Joints.{jointOf}
 use Rattle.engine.proofs.Ledgers.{known-none, ledger-none}
-use Rattle.desk.proofs.Deciding.{answer-full, answer-model, answer-none, found-asked, found-few, found-fine, found-sound}
+use Rattle.desk.proofs.Deciding.{answer-full, answer-model, answer-none, found-asked, found-few, found-sound}
 use borrow.Author.Needs.{needs}
 use Rattle.desk.proofs.decide.decide.Statement.{statement}
 use Rattle.desk.proofs.decide.decide.Tie as tie
@@ -63,7 +63,7 @@ put-model-requires c κs =
         r .joint,
         (
           found-sound r s n (v .1),
-          (found-asked r s n (v .1), (found-fine r s n (v .1) (well-formed (sheet j) (p .0 .well)), omega (arith, found-few r s n (v .1), p .1 .0))),
+          (found-asked r s n (v .1), omega (arith, found-few r s n (v .1), p .1 .0)),
         ),
       ),
     )

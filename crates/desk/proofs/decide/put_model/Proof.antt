@@ -39,7 +39,7 @@ module _ (c : lts.After-order calls reads.Pre reads.Post) where
   ready : Ready sheet (start .args .j) (start .args .used) (c .order .result) (c .order .last .1 .1 .0) (c .order .last .1 .1 .1 .0)
   ready =
       let p = start .pre in
-      model-ready sheet (well-formed sheet (p .0 .well)) (start .args .j) (p .1 .0) (p .1 .1 .0) (p .1 .1 .1 .0) (p .1 .1 .1 .1 .1) (c .order .ensures)
+      model-ready sheet (well-formed sheet (p .0 .well)) (start .args .j) (p .1 .0) (p .1 .1 .0) (p .1 .1 .1 .0) (p .1 .1 .1 .1) (c .order .ensures)
 
 -- the edges are counted, and so the words
 module _ (c : lts.After-count-edges calls reads.Pre reads.Post) where
@@ -58,7 +58,7 @@ module _ (c : lts.After-count-edges calls reads.Pre reads.Post) where
       (c .count-edges .result) (c .count-edges .ensures .0)
 
 order-requires : tie.Need-order-requires
-order-requires c κs = let p = c .before .before .before .before .before .pre in (p .0, (p .1 .1 .0, ((p .1 .0 .small, p .1 .1 .1 .0), p .1 .1 .1 .1 .0)))
+order-requires c κs = let p = c .before .before .before .before .before .pre in (p .0, (p .1 .1 .0, (p .1 .0 .small, p .1 .1 .1 .0)))
 
 count-edges-requires : tie.Need-count-edges-requires
 count-edges-requires c κs = let d = c .before .before .before .before .before .before in (start d .pre .0, ready d)

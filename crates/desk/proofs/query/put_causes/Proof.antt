@@ -13,7 +13,7 @@ use Rattle.desk.proofs.query.put_causes.Statement.{statement}
 use Rattle.desk.proofs.query.put_causes.Tie as tie
 use Rattle.desk.proofs.query.put_causes.Reads as reads
 use Rattle.desk.proofs.query.put_causes.Lts as lts
-use Rattle.desk.proofs.query.clear_slots.Reads as clear-slots-reads
+use Rattle.zeros.proofs.clear_slots.Reads as clear-slots-reads
 use Rattle.sets.proofs.list.list_causes.Reads as list-causes-reads
 
 abbrev calls : lts.Claims

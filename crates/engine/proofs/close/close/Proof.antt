@@ -44,7 +44,7 @@ module _ (c : lts.After-collect calls reads.Pre reads.Post Inv-loop μ-loop) whe
 loop-holds : tie.Need-loop-holds Inv-loop μ-loop
 loop-holds c =
     let b = c .before in
-    closing-start (planSheet (b .args .plan .now)) (b .args .start) (b .args .count) (b .args .records .now) (b .pre .1 .0 .1) (b .pre .1 .1)
+    closing-start (planSheet (b .args .plan .now)) (b .args .start) (b .args .count) (b .args .records .now) (b .pre .1 .0) (b .pre .1 .1)
 
 mul-label-of : tie.Need-mul-label-of Inv-loop μ-loop
 mul-label-of c = omega (arith, c .before .loop .inv .filling .fits)

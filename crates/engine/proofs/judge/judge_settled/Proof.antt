@@ -102,8 +102,8 @@ close-requires : tie.Need-close-requires
 close-requires c κs =
     let d = c .before .before .before .before .before .before in
     let (n, _) = c .before .before .first .given .0 in
-    let (a, b, all-known) = begun-ready (s d) (J d) (clear d) _ _ _ (known d) (lent d) (room d) n _ (asked-left d (Used n) (c .before .before .first .given .1)) in
-    (start d .pre .0, ((a, b), all-known))
+    let (_, b, all-known) = begun-ready (s d) (J d) (clear d) _ _ _ (known d) (lent d) (room d) n _ (asked-left d (Used n) (c .before .before .first .given .1)) in
+    (start d .pre .0, (b, all-known))
 
 -- src/judge.rt:178:21
 enum-known-second : tie.Need-enum-known-second

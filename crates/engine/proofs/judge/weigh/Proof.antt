@@ -7,7 +7,7 @@ use Rattle.engine.proofs.judge.weigh.Statement.{statement}
 use Rattle.engine.proofs.judge.weigh.Tie as tie
 use Rattle.engine.proofs.judge.weigh.Reads as reads
 use Rattle.engine.proofs.judge.weigh.Lts as lts
-use Rattle.engine.proofs.judge.clear_marks.Reads as clear-marks-reads
+use Rattle.zeros.proofs.clear_marks.Reads as clear-marks-reads
 use Rattle.engine.proofs.judge.joint_stands.Reads as joint-stands-reads
 use Rattle.engine.proofs.strike.strike.Reads as strike-reads
 
@@ -31,7 +31,7 @@ clear-marks-requires c κs = search needs
 strike-requires : tie.Need-strike-requires
 strike-requires c κs =
     let a = c .before .before .before .before .before .before .before in
-    (a .pre .0, (cleared-lent (a .pre .1 .0 .1) (a .pre .1 .1) (c .before .before .before .clear-marks .ensures), a .pre .1 .0 .1))
+    (a .pre .0, cleared-lent (a .pre .1 .0 .1) (a .pre .1 .1) (c .before .before .before .clear-marks .ensures))
 
 -- src/judge.rt:151:8
 joint-stands-requires : tie.Need-joint-stands-requires

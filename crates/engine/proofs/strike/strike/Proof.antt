@@ -25,7 +25,7 @@ loop-holds c = (none, λ e. clashing true refl e)
 strike-pass-requires : tie.Need-strike-pass-requires Inv-loop μ-loop
 strike-pass-requires c κs =
     let b = c .before .before .before .before .before in
-    (b .pre .0, (lent-still (b .pre .1 .0) (c .before .before .loop .inv .0), b .pre .1 .1))
+    (b .pre .0, lent-still (b .pre .1) (c .before .before .loop .inv .0))
 
 loop-less : tie.Need-loop-less Inv-loop μ-loop
 loop-less c = rw (c .before .before .before .before .loop-test .taken) (pass-less (c .before .before .strike-pass .ensures))

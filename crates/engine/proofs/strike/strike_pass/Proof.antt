@@ -31,7 +31,7 @@ module _ (c : lts.After-strike-at calls reads.Pre reads.Post Inv-loop μ-loop) w
 
   struck-next : (r : Bool) → c .strike-at .result ≡ r → Striking (planSheet (begin .args .plan .now)) (begin .args .used) (begin .args .start) (begin .args .records .now) (begin .args .marks .now)
       (c .strike-at .last .1 .1 .1 .0) (r || at-loop .loop .changed) (at-loop .loop .i - 1)
-  struck-next r e = strike-on (at-loop .loop .inv) (c .before .before .loop-test .taken) (begin .pre .1 .0 .marked) (c .strike-at .last .1 .1 .1 .0) r
+  struck-next r e = strike-on (at-loop .loop .inv) (c .before .before .loop-test .taken) (begin .pre .1 .marked) (c .strike-at .last .1 .1 .1 .0) r
       (c .strike-at .ensures .0, sym e ∙ c .strike-at .ensures .1)
 
 loop-holds : tie.Need-loop-holds Inv-loop μ-loop
@@ -43,7 +43,7 @@ sub-i c = omega arith
 strike-at-requires : tie.Need-strike-at-requires Inv-loop μ-loop
 strike-at-requires c κs =
     let b = c .before .before .before .before .before in
-    (b .pre .0, (lent-still (b .pre .1 .0) (c .before .before .loop .inv .struck), omega (arith, c .before .before .loop .inv .inside)))
+    (b .pre .0, (lent-still (b .pre .1) (c .before .before .loop .inv .struck), omega (arith, c .before .before .loop .inv .inside)))
 
 loop-less : tie.Need-loop-less Inv-loop μ-loop
 loop-less c = omega arith

@@ -64,7 +64,7 @@ module _ (c : lts.In-loop calls reads.Pre reads.Post Inv-loop μ-loop) where
   place-inside = omega (arith, c .loop-test .taken, at-loop .loop .inv .within, sound at-loop .lent .enough)
 
 bring-joint-requires : tie.Need-bring-joint-requires Inv-loop μ-loop
-bring-joint-requires c κs = let b = c .before .before .before .before in (b .pre .0, (b .pre .1 .0 .lent, b .pre .1 .1 .0))
+bring-joint-requires c κs = let b = c .before .before .before .before in (b .pre .0, (b .pre .1 .0 .lent, b .pre .1 .1))
 
 loop-holds : tie.Need-loop-holds Inv-loop μ-loop
 loop-holds c = let e = c .before .before .before .before .bring-joint .ensures in bringing _ (e .0 .lent) (e .1) refl
