@@ -13,8 +13,7 @@ use Rattle.alc.specs.Theorems.Promises.{lent-well}
 use Rattle.sheet.specs.declared.Reason.{Reason}
 use Rattle.sheet.specs.declared.Outcome.{Outcome}
 use Rattle.sheet.specs.declared.Outcome.the-variants.{Accepted, Refused}
-use Rattle.sheet.specs.Form.{reasonNumber}
-use Rattle.sheet.specs.Promise.{outcomeRead}
+use Rattle.sheet.specs.Form.{reasonNumber, outcomeRead}
 use Rattle.plan.specs.Plan.{planSheet, Prepared}
 use Rattle.desk.specs.declared.Opened.{Opened}
 use Rattle.desk.specs.Desk.{lentBadly, lentRead, Opening}

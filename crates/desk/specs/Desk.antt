@@ -10,8 +10,7 @@ use Rattle.alc.specs.Bytes.{Read, refused, readSheet}
 use Rattle.alc.specs.Model as theory
 use Rattle.alc.specs.Replies.{Reply, mostRecords}
 use Rattle.sheet.specs.declared.Outcome.the-variants.{Accepted}
-use Rattle.sheet.specs.Form.{reasonNumber}
-use Rattle.sheet.specs.Promise.{outcomeRead}
+use Rattle.sheet.specs.Form.{reasonNumber, outcomeRead}
 use Rattle.plan.specs.Plan.{planSheet, Prepared}
 use Rattle.desk.specs.declared.Opened.{Opened}
 use Rattle.desk.specs.declared.Answer.{Answer}

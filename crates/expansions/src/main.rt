@@ -2,10 +2,10 @@
 // A sheet that is refused gives the number and the place of its refusal.
 use alc::Label;
 use alc::Mark;
+use reader::read_sheet;
 use sheet::Outcome;
 use sheet::Reason;
 use sheet::Sheet;
-use sheet::read_sheet;
 use tableau::walks::count_expansions;
 ghost use mathlib.Core.Path.{_≡_};
 ghost use mathlib.Core.Bool.{true};

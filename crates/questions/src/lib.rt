@@ -4,7 +4,7 @@
 //   balance HEX ROOM: `bal` and what is left, or the refusal's number and value
 // HEX is the sheet in hexadecimal without blanks, and - for an empty one. Any other question is answered `what?`.
 // Lines without words, and those whose first word starts with #, are passed over.
-// It rests on desk and sheet for the answers, and on lines for reading and printing.
+// It rests on desk, sheet and reader for the answers, and on lines for reading and printing.
 use desk::Answer;
 use lines::input;
 use lines::input::Input;
@@ -12,7 +12,7 @@ use lines::ones;
 use lines::print;
 use lines::words;
 use lines::words::Said;
-use sheet::balance::Margin;
+use reader::balance::Margin;
 ghost use Prim.Native.Nat.{_≤_};
 
 // To a question that is not understood, or asks for more than there is.
@@ -125,7 +125,7 @@ fn balance(line: &[u8], bytes: &[u8]) {
     let Said::Is(room) = words::number(line, 2) else {
         return what();
     };
-    print_margin(sheet::balance::balance(bytes, room));
+    print_margin(reader::balance::balance(bytes, room));
 }
 
 // What the line asks about the sheet that it says.

@@ -1,4 +1,4 @@
--- What the code's values mean: a sheet as the code holds it and the sheet of alc's definitions, each from the other; and what its answers say of a reading.
+-- What the code's values mean: a sheet as the code holds it and the sheet of alc's definitions, each from the other; and what an outcome says of a reading.
 -- Definitions only.
 use Prim.Native.Nat.{ℕ, zero, suc, _-_}
 use mathlib.Core.List.{List, [], _++_, map}
@@ -11,12 +11,8 @@ use Rattle.sheet.specs.declared.Reason.{Reason}
 use Rattle.sheet.specs.declared.Reason.the-variants.{Cut, BadlyFormed, OverLimit, TooLarge, NotThere, LeftOver, LentBadly, OffSheet}
 use Rattle.sheet.specs.declared.Section.{Section}
 use Rattle.sheet.specs.declared.Sheet.{Sheet}
-use Rattle.sheet.specs.declared.number.Number.{Number}
-use Rattle.sheet.specs.declared.number.Number.the-variants.{Value, Refused as refusedNumber}
-use Rattle.sheet.specs.declared.sections.Entry.{Entry}
-use Rattle.sheet.specs.declared.sections.Entry.the-variants.{Numbers, Refused as refusedEntry}
-use Rattle.sheet.specs.declared.sections.Stop.{Stop}
-use Rattle.sheet.specs.declared.sections.Stop.the-variants.{Behind, Refused as refusedStop}
+use Rattle.sheet.specs.declared.Outcome.{Outcome}
+use Rattle.sheet.specs.declared.Outcome.the-variants.{Accepted, Refused as refusedOutcome}
 
 -- document 01's numbers 1 to 8
 abbrev pub reasonNumber : Reason → ℕ
@@ -119,15 +115,8 @@ formOf s = record {
 abbrev pub emptySheet : theory.Sheet
 emptySheet = record { lines = []; rules = []; individuals = 0; classes = []; roles = [] }
 
--- ---- what the answers say of a reading
-abbrev pub numberRead : Number → Read ℕ
-numberRead (Value v p) = taken v p
-numberRead (refusedNumber why p) = refused (reasonNumber why) p
-
-abbrev pub entryRead : Entry → Read Triple
-entryRead (Numbers a b c p) = taken (triple a b c) p
-entryRead (refusedEntry why p) = refused (reasonNumber why) p
-
-abbrev pub stopRead : {A : Type 0} → A → Stop → Read A
-stopRead a (Behind p) = taken a p
-stopRead a (refusedStop why p) = refused (reasonNumber why) p
+-- ---- readings
+-- what an outcome says of a value that was read from n bytes: an accepted sheet is read to its end
+abbrev pub outcomeRead : {A : Type 0} → A → ℕ → Outcome → Read A
+outcomeRead a n Accepted = taken a n
+outcomeRead a n (refusedOutcome why p) = refused (reasonNumber why) p

@@ -1,7 +1,7 @@
 // Every byte string of length 0 to 2 through the reader: how often each refusal comes at each place, as "number place times".
 // tools/slices.py prints what is expected, by a reader of its own.
+use reader::read_sheet;
 use sheet::Outcome;
-use sheet::read_sheet;
 
 // Nine numbers, at four places each.
 const SLOTS: usize = 36;

@@ -8,8 +8,7 @@ use borrow.Author.Needs.{needs}
 use Rattle.alc.specs.Sheet.{Sheet}
 use Rattle.alc.specs.Theorems.Bytes.{accepted-is}
 use Rattle.sheet.specs.declared.Outcome.{Outcome}
-use Rattle.sheet.specs.Form.{sheetOf}
-use Rattle.sheet.specs.Promise.{outcomeRead}
+use Rattle.sheet.specs.Form.{sheetOf, outcomeRead}
 use Rattle.desk.specs.Desk.{lentRead}
 use Rattle.desk.proofs.Opens.{tested, opening-refused, opening-accepted}
 use Rattle.desk.proofs.open_sheet.Statement.{statement}
@@ -19,7 +18,7 @@ use Rattle.desk.proofs.open_sheet.Lts as lts
 use Rattle.desk.proofs.lent_badly.Reads as lent-badly-reads
 use Rattle.desk.proofs.refused.Reads as refused-reads
 use Rattle.plan.proofs.prepare.Reads as prepare-reads
-use Rattle.sheet.proofs.read_sheet.Reads as read-sheet-reads
+use Rattle.reader.proofs.read_sheet.Reads as read-sheet-reads
 
 abbrev calls : lts.Claims
 calls = (lent-badly-reads.Asked, lent-badly-reads.Learnt, refused-reads.Asked, refused-reads.Learnt, read-sheet-reads.Asked, read-sheet-reads.Learnt, prepare-reads.Asked, prepare-reads.Learnt)

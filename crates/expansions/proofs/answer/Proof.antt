@@ -2,8 +2,7 @@
 use mathlib.Core.Path.{sym, _∙_, ap}
 use lib.ListN.{length}
 use Rattle.alc.specs.Theorems.Bytes.{accepted-is}
-use Rattle.sheet.specs.Form.{sheetOf}
-use Rattle.sheet.specs.Promise.{outcomeRead}
+use Rattle.sheet.specs.Form.{sheetOf, outcomeRead}
 use borrow.Author.Needs.{needs}
 use Rattle.expansions.proofs.answer.Statement.{statement}
 use Rattle.expansions.proofs.answer.Tie as tie

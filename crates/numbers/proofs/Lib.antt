@@ -1,0 +1,2 @@
+-- The cases of a number.
+pub mod Numbers

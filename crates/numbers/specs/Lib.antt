@@ -1,0 +1,3 @@
+-- What the answer says of a number; then laws of readings.
+pub mod Form
+pub mod Reading
