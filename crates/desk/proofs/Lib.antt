@@ -1,4 +1,3 @@
-pub mod Deciding
 pub mod Opens
 pub mod Satisfying
 pub mod Querying

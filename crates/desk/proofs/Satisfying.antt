@@ -1,9 +1,9 @@
 -- The replies of `satisfy`: each of its ways out keeps alc's promise. What holds of any reply stands first; `causes` uses it too.
-use Prim.Native.Nat.{ℕ, zero, suc, _-_, _≤_, _<_}
+use Prim.Native.Nat.{ℕ, suc, _-_, _≤_, _<_}
 use mathlib.Core.Path.{_≡_, refl, sym, _∙_, ap}
 use mathlib.Core.Logic.{⊎-elim}
 use mathlib.Core.List.{List, [], _++_}
-use lib.ListN.{length, drop, replicate, length-replicate}
+use lib.ListN.{length, replicate, length-replicate}
 use native.Mathlib.Omega.{arith}
 use Rattle.alc.specs.Sheet.{Sheet}
 use Rattle.alc.specs.Bytes.{Read, refused, taken}
@@ -13,16 +13,12 @@ use Rattle.alc.specs.Replies.{Reply, untouched, finished, cleared, satisfyRead,
 use Rattle.alc.specs.Promises.{SatisfyPromise}
 use Rattle.alc.specs.Theorems.Answers.{three-only}
 use Rattle.alc.specs.Theorems.Promises.{fits, long, none, finished-cases, zeros-alone, satisfy-kept}
-use Rattle.desk.specs.declared.Answer.{Answer}
-use Rattle.desk.specs.declared.Answer.the-variants.{Model, LongModel, Unsatisfiable, OutOfSpace}
-use Rattle.desk.specs.Desk.{answerNumber, answerValue, replyOf, lentRead, Decided}
+use Rattle.answers.specs.declared.Answer.{Answer}
+use Rattle.answers.specs.declared.Answer.the-variants.{Model, LongModel, Unsatisfiable, OutOfSpace}
+use Rattle.answers.specs.Answers.{answerNumber, answerValue, replyOf, Decided}
+use Rattle.desk.specs.Desk.{lentRead}
+use Rattle.answers.proofs.Queries.{drop-replicate}
 use Rattle.desk.proofs.Opens.{checked-read}
-
--- zeros behind the first k of n zeros
-pub drop-replicate : {A : Type 0} (k n : ℕ) (a : A) → drop k (replicate n a) ≡ replicate (n - k) a
-drop-replicate zero n a = let all : n ≡ n - 0 = omega arith in ap (λ (m : ℕ). replicate m a) all
-drop-replicate (suc k) zero a = let none : 0 ≡ 0 - suc k = omega arith in ap (λ (m : ℕ). replicate m a) none
-drop-replicate (suc k) (suc n) a = let less : n - k ≡ suc n - suc k = omega arith in drop-replicate k n a ∙ ap (λ (m : ℕ). replicate m a) less
 
 -- ---- of any reply
 module _ (rs ms os : List ℕ) where

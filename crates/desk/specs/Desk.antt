@@ -1,47 +1,21 @@
--- What the desk's answers are: document 01's number and value of each, the whole reply, and what each way to an answer leaves in the model or list buffer. Definitions only.
-use Prim.Native.Nat.{ℕ, _-_, _≤_, _<_}
+-- What a question to the desk begins with: what was lent is tested, then the sheet is read. Definitions only.
+use Prim.Native.Nat.{ℕ}
 use mathlib.Core.Bool.{Bool, true, false, _||_}
 use mathlib.Core.Path.{_≡_}
-use mathlib.Core.List.{List, _++_}
-use lib.ListN.{length, drop, replicate}
+use mathlib.Core.List.{List}
+use lib.ListN.{length}
 use lib.Dec.{ltb}
 use Rattle.alc.specs.Sheet.{Sheet}
 use Rattle.alc.specs.Bytes.{Read, refused, readSheet}
-use Rattle.alc.specs.Model as theory
-use Rattle.alc.specs.Replies.{Reply, mostRecords}
+use Rattle.alc.specs.Replies.{mostRecords}
 use Rattle.sheet.specs.declared.Outcome.the-variants.{Accepted}
-use Rattle.sheet.specs.Form.{reasonNumber, outcomeRead}
+use Rattle.sheet.specs.Form.{outcomeRead}
 use Rattle.plan.specs.Plan.{planSheet, Prepared}
 use Rattle.desk.specs.declared.Opened.{Opened}
-use Rattle.desk.specs.declared.Answer.{Answer}
-use Rattle.desk.specs.declared.Answer.the-variants.{Refused, Model, LongModel, Unsatisfiable, OutOfSpace, Causes, LongList}
-
-abbrev pub answerNumber : Answer → ℕ
-answerNumber (Refused why at) = reasonNumber why
-answerNumber (Model n) = 10
-answerNumber (LongModel n) = 11
-answerNumber Unsatisfiable = 12
-answerNumber OutOfSpace = 13
-answerNumber (Causes n) = 14
-answerNumber (LongList n) = 15
-
-abbrev pub answerValue : Answer → ℕ
-answerValue (Refused why at) = at
-answerValue (Model n) = n
-answerValue (LongModel n) = n
-answerValue Unsatisfiable = 0
-answerValue OutOfSpace = 0
-answerValue (Causes n) = n
-answerValue (LongList n) = n
-
--- the answer, and what the buffers end as
-abbrev pub replyOf : Answer → List ℕ → List ℕ → List ℕ → Reply
-replyOf a recs marks out = record { number = answerNumber a; carries = answerValue a; records = recs; marks = marks; out = out }
 
 abbrev pub lentBadly : ℕ → ℕ → Bool
 lentBadly records marks = ltb mostRecords records || ltb marks records
 
--- ---- what a question begins with
 -- "7 is tested first, then the sheet"
 abbrev pub lentRead : List ℕ → ℕ → ℕ → Read Sheet
 lentRead bs records marks = elim (lentBadly records marks) [ true ↦ refused 7 0 | false ↦ readSheet bs ]
@@ -50,21 +24,3 @@ lentRead bs records marks = elim (lentBadly records marks) [ true ↦ refused 7 
 pub record Opening (bs : List ℕ) (records marks : ℕ) (o : Opened) : Type 0 where
   pub exact : outcomeRead (planSheet (o .plan)) (length bs) (o .outcome) ≡ lentRead bs records marks
   pub planned : o .outcome ≡ Accepted → Prepared (o .plan)
-
--- ---- what it leaves
--- the words are put where they fit, and else their length is told and the buffer stays
-pub record Put (ws before : List ℕ) (r : Answer) (after : List ℕ) : Type 0 where
-  pub fits : length ws ≤ length before → (r ≡ Model (length ws)) × (after ≡ ws ++ drop (length ws) before)
-  pub long : length before < length ws → (r ≡ LongModel (length ws)) × (after ≡ before)
-
--- the answer for a sheet that was read
-pub record Decided (a : theory.Answer) (before : List ℕ) (r : Answer) (after : List ℕ) : Type 0 where
-  pub ten : a .number ≡ 10 → Put (a .out) before r after
-  pub twelve : a .number ≡ 12 → (r ≡ Unsatisfiable) × (after ≡ before)
-  pub thirteen : a .number ≡ 13 → (r ≡ OutOfSpace) × (after ≡ before)
-
--- the answer to a query that is on the sheet, over a list buffer of so many slots
-pub record Queried (a : theory.Answer) (slots : ℕ) (r : Answer) (after : List ℕ) : Type 0 where
-  pub fits : a .number ≡ 14 → length (a .out) ≤ slots → (r ≡ Causes (length (a .out))) × (after ≡ a .out ++ replicate (slots - length (a .out)) 0)
-  pub long : a .number ≡ 14 → slots < length (a .out) → (r ≡ LongList (length (a .out))) × (after ≡ replicate slots 0)
-  pub thirteen : a .number ≡ 13 → (r ≡ OutOfSpace) × (after ≡ replicate slots 0)

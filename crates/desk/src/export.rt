@@ -1,11 +1,11 @@
 // What C and Rust are handed: the public functions with a code and a carried value in the place of an enum. bindings/ has the callers.
 // Each keeps the whole promise of the function that it calls, and asks for nothing: any bytes, any numbers, any buffers.
-use crate::answer_number;
-use crate::answer_value;
 use crate::causes;
 use crate::satisfy;
-use reader::balance::Margin;
-use reader::balance::balance;
+use answers::answer_number;
+use answers::answer_value;
+use balance::Margin;
+use balance::balance;
 use sheet::reason_number;
 ghost use Rattle.alc.specs.Promises.{SatisfyPromise, CausesPromise, BalancePromise};
 ghost use Rattle.desk.specs.Export.{reply, balanced, NoMore};

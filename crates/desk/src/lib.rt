@@ -1,12 +1,11 @@
 // The desk: the public functions. Any bytes, any numbers, any buffers: each answer is named, and for each it is settled what every buffer holds.
-// What is right stands in alc's specs/Replies.antt and specs/Promises.antt; specs/Desk.antt says what an answer's number and value are.
-pub mod decide; // the verdict on a sheet, and its model
+// What is right stands in alc's specs/Replies.antt and specs/Promises.antt; specs/Desk.antt says what a question begins with, answers' specs/Answers.antt what an answer's number and value are.
 pub mod export; // for C and Rust
-pub mod query; // the cause list of a port and a class
 
-use crate::decide::decide;
-use crate::query::off_sheet;
-use crate::query::put_causes;
+use answers::Answer;
+use answers::decide::decide;
+use answers::query::off_sheet;
+use answers::query::put_causes;
 use plan::prepare;
 use reader::read_sheet;
 use sheet::Outcome;
@@ -18,48 +17,8 @@ ghost use mathlib.Core.Path.{_≡_};
 ghost use Prim.Native.Nat.{_<_};
 ghost use Rattle.alc.specs.Promises.{SatisfyPromise, CausesPromise};
 ghost use Rattle.sheet.specs.declared.Outcome.the-variants as outcome;
-ghost use Rattle.desk.specs.Desk.{answerNumber, answerValue, replyOf, lentBadly, Opening};
-
-// The answers of document 01, each with what it carries.
-pub enum Answer {
-    Refused(Reason, usize),
-    Model(usize),
-    LongModel(usize),
-    Unsatisfiable,
-    OutOfSpace,
-    Causes(usize),
-    LongList(usize),
-}
-
-// Document 01's number of an answer.
-pub fn answer_number(a: Answer) -> u64
-    ensures { λ r. ⌜ r ≡ answerNumber a ⌝ }
-{
-    match a {
-        Answer::Refused(why, _) => sheet::reason_number(why),
-        Answer::Model(_) => 10,
-        Answer::LongModel(_) => 11,
-        Answer::Unsatisfiable => 12,
-        Answer::OutOfSpace => 13,
-        Answer::Causes(_) => 14,
-        Answer::LongList(_) => 15,
-    }
-}
-
-// What it carries.
-pub fn answer_value(a: Answer) -> usize
-    ensures { λ r. ⌜ r ≡ answerValue a ⌝ }
-{
-    match a {
-        Answer::Refused(_, at) => at,
-        Answer::Model(words) => words,
-        Answer::LongModel(words) => words,
-        Answer::Unsatisfiable => 0,
-        Answer::OutOfSpace => 0,
-        Answer::Causes(sets) => sets,
-        Answer::LongList(sets) => sets,
-    }
-}
+ghost use Rattle.answers.specs.Answers.{replyOf};
+ghost use Rattle.desk.specs.Desk.{lentBadly, Opening};
 
 // Over 4,096 records lent, or fewer mark bytes than records.
 fn lent_badly(records: usize, marks: usize) -> bool

@@ -27,12 +27,11 @@ use Rattle.alc.specs.Theorems.Bits.{bit-none, bit-put, bit-put-other, put-word,
 use Rattle.alc.specs.Theorems.Words.{mask-small, mask-bit}
 use Rattle.sheet.specs.Form.{lineFrom}
 use Rattle.tableau.specs.declared.joint.Joint.{Joint}
-use Rattle.model.specs.declared.edges.Edges.{Edges}
+use Rattle.edges.specs.declared.Edges.{Edges}
 use Rattle.plan.specs.Plan.{planSheet, Prepared}
 use Rattle.tableau.specs.Records.{labelOf, recorded}
 use Rattle.tableau.specs.Joints.{jointOf}
-use Rattle.model.specs.Sound.{SeedsIn}
-use Rattle.model.specs.Keys.{keysOf, edgeOf, edgesFrom}
+use Rattle.edges.specs.Keys.{SeedsIn, keysOf, edgeOf, edgesFrom}
 use Rattle.model.specs.Laid.{Ready, named, masksOf, wordsOf}
 use Rattle.plan.proofs.Lines.{line-of-kind}
 use Rattle.engine.proofs.Ledgers.{recorded-at, length-recorded}

@@ -10,7 +10,7 @@ use Rattle.alc.specs.Model.{nameMask, labelAt, chosen, modelEdges}
 use Rattle.tableau.specs.declared.joint.Joint.{Joint}
 use Rattle.tableau.specs.Records.{recorded}
 use Rattle.tableau.specs.Joints.{jointOf, Fit}
-use Rattle.model.specs.Sound.{Sound, Complete}
+use Rattle.order.specs.Sound.{Sound, Complete}
 
 -- the model's seeds are the first `seeds` records, and they hold all that its elements ask for
 pub record Ready (s : Sheet) (j : Joint) (used seeds : ℕ) (recs marks : List ℕ) : Type 0 where

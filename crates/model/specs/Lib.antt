@@ -1,3 +1,1 @@
-pub mod Sound
-pub mod Keys
 pub mod Laid

@@ -1,3 +1,4 @@
 pub mod Laid
 pub mod Members
 pub mod Lines
+pub mod Walking

@@ -4,15 +4,15 @@
 //   balance HEX ROOM: `bal` and what is left, or the refusal's number and value
 // HEX is the sheet in hexadecimal without blanks, and - for an empty one. Any other question is answered `what?`.
 // Lines without words, and those whose first word starts with #, are passed over.
-// It rests on desk, sheet and reader for the answers, and on lines for reading and printing.
-use desk::Answer;
+// It rests on desk, answers, sheet and balance for the answers, and on lines for reading and printing.
+use answers::Answer;
+use balance::Margin;
 use lines::input;
 use lines::input::Input;
 use lines::ones;
 use lines::print;
 use lines::words;
 use lines::words::Said;
-use reader::balance::Margin;
 ghost use Prim.Native.Nat.{_≤_};
 
 // To a question that is not understood, or asks for more than there is.
@@ -22,8 +22,8 @@ fn what() {
 
 // A reply's number and value. It answers whether that is a refusal, which leaves all buffers alone.
 fn print_reply(a: Answer) -> bool {
-    let number = desk::answer_number(a);
-    print::head(number, desk::answer_value(a) as u64);
+    let number = answers::answer_number(a);
+    print::head(number, answers::answer_value(a) as u64);
     number < 10
 }
 
@@ -125,7 +125,7 @@ fn balance(line: &[u8], bytes: &[u8]) {
     let Said::Is(room) = words::number(line, 2) else {
         return what();
     };
-    print_margin(reader::balance::balance(bytes, room));
+    print_margin(balance::balance(bytes, room));
 }
 
 // What the line asks about the sheet that it says.

@@ -1,6 +1,4 @@
--- Laws that several proofs share: entries, the loop over entries, whole sheets; counting, and exact differences.
+-- Laws that several proofs share: entries, the loop over entries, whole sheets.
 pub mod Entries
 pub mod Loop
 pub mod Sheets
-pub mod Counting
-pub mod Exact

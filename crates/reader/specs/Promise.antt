@@ -1,19 +1,15 @@
--- What the public functions of this crate promise. Definitions only; Theorems has the proof that `ReadPromise` settles the answer.
+-- What the reader promises. Definitions only; Theorems has the proof that `ReadPromise` settles the answer.
 use Prim.Native.Nat.{ℕ}
 use mathlib.Core.Path.{_≡_}
 use mathlib.Core.List.{List}
 use lib.ListN.{length}
 use Rattle.alc.specs.Sheet as theory
 use Rattle.alc.specs.Bytes.{Read, readSheet}
-use Rattle.alc.specs.Replies.{Balance, faulty, left}
 use Rattle.sheet.specs.declared.Reason.{Reason}
 use Rattle.sheet.specs.declared.Outcome.the-variants.{Refused as refusedOutcome}
 use Rattle.sheet.specs.declared.Readout.{Readout}
-use Rattle.sheet.specs.Form.{reasonNumber, sheetOf, formOf, emptySheet, outcomeRead}
-use Rattle.reader.specs.declared.balance.Margin.{Margin}
-use Rattle.reader.specs.declared.balance.Margin.the-variants.{Left, Refused as refusedMargin}
+use Rattle.sheet.specs.Form.{sheetOf, formOf, emptySheet, outcomeRead}
 
--- ---- the reader
 abbrev pub readoutRead : List ℕ → Readout → Read theory.Sheet
 readoutRead bs r = outcomeRead (sheetOf (r .sheet)) (length bs) (r .outcome)
 
@@ -28,8 +24,3 @@ pub record ReadsAs (bs : List ℕ) (wanted : Read theory.Sheet) (r : Readout) : 
 
 abbrev pub ReadPromise : List ℕ → Readout → Type 0
 ReadPromise bs r = ReadsAs bs (readSheet bs) r
-
--- ---- the balance
-abbrev pub marginBalance : Margin → Balance
-marginBalance (refusedMargin why p) = faulty (reasonNumber why) p
-marginBalance (Left z) = left z

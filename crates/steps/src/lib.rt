@@ -1,5 +1,3 @@
-// One label over a plan of the sheet: the clash test, the next step, and what a settled label hands on and asks for.
-// What is right stands in alc's specs; specs/Choice.antt and specs/Asks.antt say what the answers mean.
-pub mod clash; // which labels clash
-pub mod seeds; // what a settled label hands on and asks for
+// One label over a plan of the sheet: its next step.
+// What is right stands in alc's specs/Label.antt and specs/Settle.antt; specs/Choice.antt says what the answers mean.
 pub mod step; // the first demand that is not met

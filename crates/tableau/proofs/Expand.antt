@@ -27,7 +27,8 @@ use Rattle.tableau.specs.declared.walks.Picked.{Picked}
 use Rattle.tableau.specs.declared.walks.Picked.the-variants.{Nothing as none, Found as picked}
 use Rattle.plan.proofs.Lines.{lines-fit}
 use Rattle.steps.proofs.Firsts.{Meets, settled as all-met, meets, paired-moves, first-meets}
-use Rattle.steps.proofs.Chosen.{addAll-join, orElse, first-append}
+use Rattle.seeds.proofs.Handing.{addAll-join}
+use Rattle.steps.proofs.Chosen.{orElse, first-append}
 
 -- ---- what a choice adds is of lines below n, and leaves fewer of their marks unset
 abbrev pub Fresh : ℕ → Label → Mark → Type 0

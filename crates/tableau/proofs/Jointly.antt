@@ -35,7 +35,8 @@ use Rattle.steps.specs.Choice.{choiceOf, choice}
 use Rattle.tableau.specs.Joints.{jointOf, Fit, ownStep, assertionAt, metBy, stepOf, nextOf, settleBy}
 use Rattle.plan.proofs.Lines.{lines-fit}
 use Rattle.tableau.proofs.Roles.{roles-are, role-in, role-count, roles-fit}
-use Rattle.steps.proofs.Chosen.{addAll-join, orElse, first-append}
+use Rattle.seeds.proofs.Handing.{addAll-join}
+use Rattle.steps.proofs.Chosen.{orElse, first-append}
 use Rattle.steps.proofs.Firsts.{or-found, Meets, settled, meets, paired-moves, first-meets}
 
 -- ---- steps

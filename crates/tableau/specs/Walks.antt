@@ -12,8 +12,8 @@ use Rattle.steps.specs.declared.step.Choice.{Choice}
 use Rattle.steps.specs.declared.step.Choice.the-variants.{Nothing as done, Every, Either}
 use Rattle.tableau.specs.declared.walks.Picked.{Picked}
 use Rattle.tableau.specs.declared.walks.Picked.the-variants.{Nothing as none, Found}
-use Rattle.steps.specs.declared.seeds.Asked.{Asked}
-use Rattle.steps.specs.declared.seeds.Asked.the-variants.{Nothing, Seed}
+use Rattle.seeds.specs.declared.Asked.{Asked}
+use Rattle.seeds.specs.declared.Asked.the-variants.{Nothing, Seed}
 use Rattle.tableau.specs.Records.{labelOf}
 
 -- the settled expansions by the choice: none is left to make, one label follows, or two do, the first branch first

@@ -1,8 +1,8 @@
 // A joint label, one label for each individual, and its next step: the lowest individual with a step of its own, else the first role assertion that adds a mark.
 use alc::Label;
 use alc::Mark;
-use steps::clash::clash_test;
-use steps::seeds::pushed_along;
+use clash::clash_test;
+use seeds::pushed_along;
 use steps::step::Choice;
 use steps::step::next_choice;
 ghost use mathlib.Core.Path.{_≡_};

@@ -11,15 +11,16 @@ use Rattle.sheet.specs.declared.Outcome.the-variants.{Accepted}
 use Rattle.plan.specs.Plan.{planSheet}
 use Rattle.desk.specs.Desk.{lentRead}
 use Rattle.desk.proofs.Opens.{opened-refused, opened-taken, taken-well}
-use Rattle.desk.proofs.Querying.{onSheet, stands, kept-refused, kept-off-sheet, kept-queried}
+use Rattle.answers.proofs.Queries.{onSheet, stands}
+use Rattle.desk.proofs.Querying.{kept-refused, kept-off-sheet, kept-queried}
 use Rattle.desk.proofs.causes.Statement.{statement}
 use Rattle.desk.proofs.causes.Tie as tie
 use Rattle.desk.proofs.causes.Reads as reads
 use Rattle.desk.proofs.causes.Lts as lts
 use Rattle.zeros.proofs.clear_records.Reads as clear-records-reads
 use Rattle.desk.proofs.open_sheet.Reads as open-sheet-reads
-use Rattle.desk.proofs.query.off_sheet.Reads as off-sheet-reads
-use Rattle.desk.proofs.query.put_causes.Reads as put-causes-reads
+use Rattle.answers.proofs.query.off_sheet.Reads as off-sheet-reads
+use Rattle.answers.proofs.query.put_causes.Reads as put-causes-reads
 use Rattle.zeros.proofs.clear_marks.Reads as clear-marks-reads
 
 abbrev calls : lts.Claims

@@ -17,7 +17,7 @@ use Rattle.desk.proofs.satisfy.Reads as reads
 use Rattle.desk.proofs.satisfy.Lts as lts
 use Rattle.zeros.proofs.clear_records.Reads as clear-records-reads
 use Rattle.zeros.proofs.clear_words.Reads as clear-words-reads
-use Rattle.desk.proofs.decide.decide.Reads as decide-reads
+use Rattle.answers.proofs.decide.decide.Reads as decide-reads
 use Rattle.desk.proofs.open_sheet.Reads as open-sheet-reads
 use Rattle.zeros.proofs.clear_marks.Reads as clear-marks-reads
 

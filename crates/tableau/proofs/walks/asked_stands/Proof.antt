@@ -10,7 +10,7 @@ use borrow.Author.Tests.{lt-ltb, le-ltb}
 use Rattle.alc.specs.Lists.{all}
 use Rattle.alc.specs.declared.Label.{Label}
 use Rattle.alc.specs.Seeds.{among}
-use Rattle.steps.specs.declared.seeds.Asked.{Asked}
+use Rattle.seeds.specs.declared.Asked.{Asked}
 use Rattle.tableau.specs.Records.{foundAt}
 use Rattle.tableau.specs.Walks.{standing, seedsAsked}
 use Rattle.tableau.proofs.Buffers.{stands}

@@ -6,13 +6,13 @@ use borrow.Author.Needs.{needs}
 use Rattle.alc.specs.Seeds.{includeAll}
 use Rattle.plan.specs.Plan.{planSheet}
 use Rattle.tableau.specs.Records.{recorded, GrownTo}
-use Rattle.steps.proofs.Chosen.{lowest-of, low-line, low-small, low-le, rest-less}
+use Rattle.plan.proofs.Walking.{lowest-of, low-line, low-small, low-le, rest-less}
 use Rattle.tableau.proofs.Buffers.{seedsAt, Including, including, included, include-on, include-full}
 use Rattle.tableau.proofs.walks.include_seeds.Statement.{statement}
 use Rattle.tableau.proofs.walks.include_seeds.Tie as tie
 use Rattle.tableau.proofs.walks.include_seeds.Reads as reads
 use Rattle.tableau.proofs.walks.include_seeds.Lts as lts
-use Rattle.steps.proofs.seeds.asked_at.Reads as asked-at-reads
+use Rattle.seeds.proofs.asked_at.Reads as asked-at-reads
 use Rattle.tableau.proofs.walks.include_asked.Reads as include-asked-reads
 
 abbrev Inv-loop : tie.InvT-loop

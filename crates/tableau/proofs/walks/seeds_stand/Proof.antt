@@ -8,13 +8,13 @@ use Rattle.alc.specs.Lists.{all}
 use Rattle.alc.specs.Seeds.{among}
 use Rattle.plan.specs.Plan.{planSheet}
 use Rattle.tableau.specs.Walks.{standing}
-use Rattle.steps.proofs.Chosen.{lowest-of, low-line, low-small, low-le, rest-less}
+use Rattle.plan.proofs.Walking.{lowest-of, low-line, low-small, low-le, rest-less}
 use Rattle.tableau.proofs.Buffers.{seedsAt, Serving, serving, served-all, serve-on, serve-fails}
 use Rattle.tableau.proofs.walks.seeds_stand.Statement.{statement}
 use Rattle.tableau.proofs.walks.seeds_stand.Tie as tie
 use Rattle.tableau.proofs.walks.seeds_stand.Reads as reads
 use Rattle.tableau.proofs.walks.seeds_stand.Lts as lts
-use Rattle.steps.proofs.seeds.asked_at.Reads as asked-at-reads
+use Rattle.seeds.proofs.asked_at.Reads as asked-at-reads
 use Rattle.tableau.proofs.walks.asked_stands.Reads as asked-stands-reads
 
 abbrev Inv-loop : tie.InvT-loop

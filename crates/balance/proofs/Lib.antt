@@ -1,0 +1,3 @@
+-- Counting, and exact differences.
+pub mod Counting
+pub mod Exact
