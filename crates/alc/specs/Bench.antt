@@ -44,11 +44,24 @@ pub record Row : Type 0 where
 
 -- records and marks end as zero; given are the number, what it carries, and the model or list buffer as it ends
 abbrev pub ends : List ℕ → Query → ℕ → ℕ → List ℕ → Row
-ends bs q n v o = record { bytes = bs; asked = q; expected = record { number = n; carries = v; records = replicate (lentTo q .records) 0; marks = replicate (lentTo q .marks) 0; out = o } }
+ends bs q n v o = record {
+  bytes = bs;
+  asked = q;
+  expected = record {
+    number = n;
+    carries = v;
+    records = replicate (lentTo q .records) 0;
+    marks = replicate
+        (lentTo q .marks) 0;
+    out = o;
+  };
+}
 
 -- the definitions that have to open for a sheet to compute, under one name
 unfoldable pub computing : Unit {0}
-unfolding numberAt belowAt operandsAt lineAt ruleAt classAt roleAt sectionsAt readSheet bit put clashes clashesAt pushed next settle moves seedOf asks expansions successors quantified bound survivors seedSurvives fine start settledJoints firstFine recordsNeeded chosen modelSeeds labelAt leads asserted edgeAt modelEdges named modelWords satisfyAnswer forces noSubsetForces listed causesAnswer satisfyReply causesReply
+unfolding numberAt belowAt operandsAt lineAt ruleAt classAt roleAt sectionsAt readSheet bit put clashes clashesAt pushed next settle moves seedOf asks
+    expansions successors quantified bound survivors seedSurvives fine start settledJoints firstFine recordsNeeded chosen modelSeeds labelAt leads
+    asserted edgeAt modelEdges named modelWords satisfyAnswer forces noSubsetForces listed causesAnswer satisfyReply causesReply
 computing = tt
 
 unfoldable pub P1 : List ℕ

@@ -6,7 +6,8 @@ use mathlib.Core.List.{List, [], _∷_, _++_}
 use lib.ListN.{length, getD}
 use lib.Dec.{ltb, eqb}
 use Rattle.alc.specs.Lists.{each}
-use Rattle.alc.specs.Sheet.{Line, top, bottom, name, not, and, or, some, only, Rule, ClassAssertion, RoleAssertion, Sheet, count, mostLines, nameCount, roleCount, mostRules, mostIndividuals, mostClasses, mostRoles, _⊑_}
+use Rattle.alc.specs.Sheet.{Line, top, bottom, name, not, and, or, some, only, Rule, ClassAssertion, RoleAssertion, Sheet, count, mostLines, nameCount}
+use Rattle.alc.specs.Sheet.{roleCount, mostRules, mostIndividuals, mostClasses, mostRoles, _⊑_}
 
 -- what reading gives: a refusal with its number and place, or a value and the place behind it
 pub data Read (A : Type 0) : Type 0 where

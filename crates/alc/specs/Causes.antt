@@ -13,7 +13,7 @@ use Rattle.alc.specs.Meaning.{Forces}
 use Rattle.alc.specs.Label.{fails}
 use Rattle.alc.specs.Settle.{Joint}
 use Rattle.alc.specs.Judge.{Entry, firstFine, recordsNeeded}
-use Rattle.alc.specs.Model.{Answer}
+use Rattle.alc.specs.Model.{Finding}
 
 -- ---- sets of rules: "rule n worth 2^n"
 -- of the rules from number i on, those whose bits are set in n, in the sheet's order
@@ -66,7 +66,7 @@ unfoldable pub listed : Sheet → ℕ → ℕ → List ℕ
 listed s port class = let flags = forcing s port class in filter (λ n. noSubsetForces s flags n && getD flags n false) (ruleSets s)
 
 -- "Answer 13 is given exactly when some set, none of whose proper subsets forces, needs more records than lent"
-unfoldable pub causesAnswer : Sheet → ℕ → ℕ → ℕ → Answer
+unfoldable pub causesAnswer : Sheet → ℕ → ℕ → ℕ → Finding
 causesAnswer s port class room =
     let flags = forcing s port class in
     elim (any (λ n. noSubsetForces s flags n && ltb room (length (recordsNeeded (withRules s n) (denial port class)))) (ruleSets s)) [

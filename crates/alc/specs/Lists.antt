@@ -2,7 +2,8 @@
 -- Definitions only; the laws are in Theorems.Lists and Theorems.Counting.
 use Prim.Native.Nat.{ℕ, zero, suc, _<_}
 use mathlib.Core.Bool.{Bool, true, false, _&&_, _||_}
-use mathlib.Core.List.{List, [], _∷_, _++_, List·Memᴰ}
+use mathlib.Core.List.{List, [], _∷_, _++_, map, List·Memᴰ}
+use lib.Dec.{eqb}
 
 infix 50 _∈_
 abbrev pub _∈_ : {A : Type 0} → A → List A → Type 0
@@ -37,6 +38,11 @@ module _ {A : Type 0} where
   filter p [] = []
   filter p (x ∷ xs) = elim (p x) [ true ↦ x ∷ filter p xs | false ↦ filter p xs ]
 
+  -- all lists that leave out some members and keep the order
+  abbrev pub sublists : List A → List (List A)
+  sublists [] = [] ∷ []
+  sublists (x ∷ xs) = map (λ l. x ∷ l) (sublists xs) ++ sublists xs
+
   -- no member twice
   abbrev pub Distinct : List A → Type 0
   Distinct [] = Unit {0}
@@ -56,6 +62,11 @@ from a (suc k) = a ∷ from (suc a) k
 -- 0, 1, .. n - 1
 abbrev pub upTo : ℕ → List ℕ
 upTo n = from 0 n
+
+-- l without its first i
+abbrev pub removeOne : ℕ → List ℕ → List ℕ
+removeOne i [] = []
+removeOne i (x ∷ xs) = elim (eqb x i) [ true ↦ xs | false ↦ x ∷ removeOne i xs ]
 
 -- each below all that stand behind it
 abbrev pub Ascending : List ℕ → Type 0

@@ -47,7 +47,8 @@ edgeAt s es J B ch r x y = any (leads J B r y) (asks s (labelAt J B ch x)) || an
 -- "sorted by from, role, to; each once"
 unfoldable pub modelEdges : Sheet → Joint → List Label → (Label → Label) → List (List ℕ)
 modelEdges s J B ch =
-    each (λ x. each (λ r. each (λ y. cond (edgeAt s (s .roles) J B ch r x y) ((x ∷ r ∷ y ∷ []) ∷ []) []) (upTo (length J + length B))) (upTo roleCount)) (upTo (length J + length B))
+    each (λ x. each (λ r. each (λ y. cond (edgeAt s (s .roles) J B ch r x y) ((x ∷ r ∷ y ∷ []) ∷ []) []) (upTo (length J + length B))) (upTo roleCount))
+    (upTo (length J + length B))
 
 -- ---- the words: "number of elements; a mask of true names for each; number of edges; each edge as from, role, to"
 -- a name is true where some line of that name holds
@@ -67,15 +68,15 @@ modelWords s J =
     n ∷ map (λ x. nameMask s (labelAt J B (chosen s) x) nameCount) (upTo n) ++ (length es ∷ each (λ e. e) es)
 
 -- ---- 10 with the words, 12, or 13: "the records needed outnumber those lent"
-pub record Answer : Type 0 where
+pub record Finding : Type 0 where
   pub number : ℕ
   pub out : List ℕ
 
-abbrev pub told : Sheet → Maybe Joint → Answer
+abbrev pub told : Sheet → Maybe Joint → Finding
 told s nothing = record { number = 12; out = [] }
 told s (just J) = record { number = 10; out = modelWords s J }
 
-unfoldable pub satisfyAnswer : Sheet → ℕ → Answer
+unfoldable pub satisfyAnswer : Sheet → ℕ → Finding
 satisfyAnswer s room = elim (ltb room (length (recordsNeeded s []))) [ true ↦ record { number = 13; out = [] } | false ↦ told s (firstFine s []) ]
 
 -- ---- words read back

@@ -64,7 +64,8 @@ pub record CausesMeans (s : Sheet) (port class room : ℕ) (os : List ℕ) (o : 
 pub record CausesPromise (bs : List ℕ) (port class : ℕ) (rs ms os : List ℕ) (o : Reply) : Type 0 where
   pub exact : o ≡ causesReply bs port class rs ms os
   pub refusals : Refusals bs rs ms os o
-  pub eight : LentWell rs ms → (s : Sheet) (p : ℕ) → readSheet bs ≡ taken s p → ((o .number ≡ 8) × (o .carries ≡ 0)) ↔ ((port < s .individuals) × (class < count s) → ⊥)
+  pub eight : LentWell rs ms → (s : Sheet) (p : ℕ) → readSheet bs ≡ taken s p → ((o .number ≡ 8) × (o .carries ≡ 0))
+      ↔ ((port < s .individuals) × (class < count s) → ⊥)
   pub means : LentWell rs ms → (s : Sheet) (p : ℕ) → readSheet bs ≡ taken s p → port < s .individuals → class < count s
       → CausesMeans s port class (length rs) os o
 

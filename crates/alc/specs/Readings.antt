@@ -38,7 +38,8 @@ witnesses =
     -- pushes before individual steps
     ∷ tells (4 ∷ 2 ∷ 0 ∷ 3 ∷ 0 ∷ 0 ∷ 7 ∷ 2 ∷ 2 ∷ 1 ∷ 1 ∷ 2 ∷ 3 ∷ 1 ∷ 0 ∷ 3 ∷ 1 ∷ 2 ∷ 0 ∷ 0 ∷ []) 0 10 (3 ∷ 1 ∷ 1 ∷ 1 ∷ 1 ∷ 0 ∷ 2 ∷ 0 ∷ [])
     -- asking lines descending
-    ∷ tells (3 ∷ 2 ∷ 0 ∷ 6 ∷ 0 ∷ 0 ∷ 7 ∷ 0 ∷ 1 ∷ 1 ∷ 2 ∷ 2 ∷ 1 ∷ 1 ∷ 0 ∷ 1 ∷ 0 ∷ []) 3 10 (4 ∷ 0 ∷ 1 ∷ 0 ∷ 0 ∷ 5 ∷ 0 ∷ 0 ∷ 1 ∷ 0 ∷ 0 ∷ 2 ∷ 1 ∷ 0 ∷ 2 ∷ 2 ∷ 0 ∷ 3 ∷ 3 ∷ 0 ∷ 3 ∷ [])
+    ∷ tells (3 ∷ 2 ∷ 0 ∷ 6 ∷ 0 ∷ 0 ∷ 7 ∷ 0 ∷ 1 ∷ 1 ∷ 2 ∷ 2 ∷ 1 ∷ 1 ∷ 0 ∷ 1 ∷ 0 ∷ []) 3 10
+    (4 ∷ 0 ∷ 1 ∷ 0 ∷ 0 ∷ 5 ∷ 0 ∷ 0 ∷ 1 ∷ 0 ∷ 0 ∷ 2 ∷ 1 ∷ 0 ∷ 2 ∷ 2 ∷ 0 ∷ 3 ∷ 3 ∷ 0 ∷ 3 ∷ [])
     -- clashing seeds take no record
     ∷ tells (2 ∷ 1 ∷ 6 ∷ 1 ∷ 0 ∷ 0 ∷ 2 ∷ 1 ∷ 0 ∷ 1 ∷ 0 ∷ []) 1 12 ([])
     -- expansions only up to the first good one
@@ -50,7 +51,8 @@ witnesses =
     -- records distinct per role
     ∷ tells (3 ∷ 2 ∷ 0 ∷ 6 ∷ 1 ∷ 0 ∷ 6 ∷ 0 ∷ 0 ∷ 0 ∷ 2 ∷ 2 ∷ 0 ∷ 1 ∷ 0 ∷ 2 ∷ 0 ∷ []) 1 10 (3 ∷ 0 ∷ 0 ∷ 1 ∷ 2 ∷ 0 ∷ 0 ∷ 2 ∷ 0 ∷ 1 ∷ 2 ∷ [])
     -- model elements depth first
-    ∷ tells (4 ∷ 2 ∷ 15 ∷ 6 ∷ 0 ∷ 0 ∷ 6 ∷ 0 ∷ 1 ∷ 7 ∷ 0 ∷ 2 ∷ 1 ∷ 3 ∷ 3 ∷ 1 ∷ 1 ∷ 0 ∷ 2 ∷ 0 ∷ []) 7 10 (6 ∷ 0 ∷ 0 ∷ 0 ∷ 32768 ∷ 0 ∷ 0 ∷ 8 ∷ 0 ∷ 0 ∷ 1 ∷ 0 ∷ 0 ∷ 2 ∷ 1 ∷ 0 ∷ 2 ∷ 1 ∷ 0 ∷ 3 ∷ 2 ∷ 0 ∷ 4 ∷ 3 ∷ 0 ∷ 2 ∷ 4 ∷ 0 ∷ 5 ∷ 5 ∷ 0 ∷ 5 ∷ [])
+    ∷ tells (4 ∷ 2 ∷ 15 ∷ 6 ∷ 0 ∷ 0 ∷ 6 ∷ 0 ∷ 1 ∷ 7 ∷ 0 ∷ 2 ∷ 1 ∷ 3 ∷ 3 ∷ 1 ∷ 1 ∷ 0 ∷ 2 ∷ 0 ∷ []) 7 10
+    (6 ∷ 0 ∷ 0 ∷ 0 ∷ 32768 ∷ 0 ∷ 0 ∷ 8 ∷ 0 ∷ 0 ∷ 1 ∷ 0 ∷ 0 ∷ 2 ∷ 1 ∷ 0 ∷ 2 ∷ 1 ∷ 0 ∷ 3 ∷ 2 ∷ 0 ∷ 4 ∷ 3 ∷ 0 ∷ 2 ∷ 4 ∷ 0 ∷ 5 ∷ 5 ∷ 0 ∷ 5 ∷ [])
     -- skip c below c
     ∷ tells (2 ∷ 1 ∷ 7 ∷ 3 ∷ 0 ∷ 1 ∷ 1 ∷ 1 ∷ 0 ∷ 0 ∷ 0 ∷ []) 1 10 (2 ∷ 0 ∷ 0 ∷ 2 ∷ 0 ∷ 3 ∷ 1 ∷ 1 ∷ 3 ∷ 1 ∷ [])
     -- rules before lines
@@ -62,15 +64,19 @@ witnesses =
     -- second branch first
     ∷ tells (1 ∷ 2 ∷ 11 ∷ 1 ∷ 0 ∷ 0 ∷ 4 ∷ 0 ∷ 0 ∷ []) 0 10 (4 ∷ 0 ∷ 0 ∷ 0 ∷ 0 ∷ 0 ∷ [])
     -- push in demanding-line order, one mark at a time
-    ∷ tells (5 ∷ 2 ∷ 0 ∷ 2 ∷ 2 ∷ 5 ∷ 1 ∷ 0 ∷ 7 ∷ 2 ∷ 2 ∷ 7 ∷ 2 ∷ 0 ∷ 0 ∷ 4 ∷ 2 ∷ 2 ∷ 3 ∷ 2 ∷ 4 ∷ 1 ∷ 2 ∷ 2 ∷ 1 ∷ []) 0 10 (4 ∷ 0 ∷ 1 ∷ 0 ∷ 0 ∷ 1 ∷ 2 ∷ 2 ∷ 1 ∷ [])
+    ∷ tells (5 ∷ 2 ∷ 0 ∷ 2 ∷ 2 ∷ 5 ∷ 1 ∷ 0 ∷ 7 ∷ 2 ∷ 2 ∷ 7 ∷ 2 ∷ 0 ∷ 0 ∷ 4 ∷ 2 ∷ 2 ∷ 3 ∷ 2 ∷ 4 ∷ 1 ∷ 2 ∷ 2 ∷ 1 ∷ []) 0 10
+    (4 ∷ 0 ∷ 1 ∷ 0 ∷ 0 ∷ 1 ∷ 2 ∷ 2 ∷ 1 ∷ [])
     -- role assertions in reverse
-    ∷ tells (10 ∷ 2 ∷ 0 ∷ 2 ∷ 2 ∷ 3 ∷ 0 ∷ 3 ∷ 1 ∷ 4 ∷ 2 ∷ 3 ∷ 3 ∷ 4 ∷ 5 ∷ 3 ∷ 3 ∷ 3 ∷ 6 ∷ 7 ∷ 0 ∷ 5 ∷ 7 ∷ 0 ∷ 7 ∷ 0 ∷ 3 ∷ 2 ∷ 0 ∷ 8 ∷ 1 ∷ 9 ∷ 2 ∷ 0 ∷ 0 ∷ 0 ∷ 0 ∷ 1 ∷ 0 ∷ []) 0 10 (3 ∷ 5 ∷ 0 ∷ 0 ∷ 2 ∷ 0 ∷ 0 ∷ 0 ∷ 1 ∷ 0 ∷ 0 ∷ [])
+    ∷ tells (10 ∷ 2 ∷ 0 ∷ 2 ∷ 2 ∷ 3 ∷ 0 ∷ 3 ∷ 1 ∷ 4 ∷ 2 ∷ 3 ∷ 3 ∷ 4 ∷ 5 ∷ 3 ∷ 3 ∷ 3 ∷ 6 ∷ 7 ∷ 0 ∷ 5 ∷ 7 ∷ 0 ∷ 7 ∷ 0 ∷ 3 ∷ 2 ∷ 0 ∷ 8 ∷ 1 ∷ 9 ∷ 2 ∷ 0 ∷ 0 ∷ 0
+    ∷ 0 ∷ 1 ∷ 0 ∷ []) 0 10 (3 ∷ 5 ∷ 0 ∷ 0 ∷ 2 ∷ 0 ∷ 0 ∷ 0 ∷ 1 ∷ 0 ∷ 0 ∷ [])
     -- highest individual first
-    ∷ tells (4 ∷ 2 ∷ 29 ∷ 0 ∷ 6 ∷ 1 ∷ 0 ∷ 5 ∷ 0 ∷ 2 ∷ 1 ∷ 2 ∷ 1 ∷ 2 ∷ 1 ∷ 1 ∷ 3 ∷ 1 ∷ 1 ∷ 0 ∷ 1 ∷ []) 1 10 (3 ∷ 0 ∷ 0 ∷ 536870912 ∷ 2 ∷ 0 ∷ 1 ∷ 1 ∷ 1 ∷ 1 ∷ 2 ∷ [])
+    ∷ tells (4 ∷ 2 ∷ 29 ∷ 0 ∷ 6 ∷ 1 ∷ 0 ∷ 5 ∷ 0 ∷ 2 ∷ 1 ∷ 2 ∷ 1 ∷ 2 ∷ 1 ∷ 1 ∷ 3 ∷ 1 ∷ 1 ∷ 0 ∷ 1 ∷ []) 1 10
+    (3 ∷ 0 ∷ 0 ∷ 536870912 ∷ 2 ∷ 0 ∷ 1 ∷ 1 ∷ 1 ∷ 1 ∷ 2 ∷ [])
     -- all holds, then all fails
     ∷ tells (6 ∷ 2 ∷ 0 ∷ 2 ∷ 1 ∷ 2 ∷ 2 ∷ 4 ∷ 0 ∷ 1 ∷ 3 ∷ 3 ∷ 5 ∷ 0 ∷ 2 ∷ 0 ∷ 1 ∷ 2 ∷ 0 ∷ 4 ∷ 0 ∷ 5 ∷ 0 ∷ []) 0 10 (1 ∷ 4 ∷ 0 ∷ [])
     -- "both hold" adds the first operand first and starts again
-    ∷ tells (15 ∷ 0 ∷ 2 ∷ 1 ∷ 1 ∷ 5 ∷ 0 ∷ 1 ∷ 7 ∷ 1 ∷ 3 ∷ 2 ∷ 2 ∷ 7 ∷ 1 ∷ 2 ∷ 2 ∷ 3 ∷ 6 ∷ 1 ∷ 5 ∷ 5 ∷ 5 ∷ 8 ∷ 3 ∷ 7 ∷ 2 ∷ 2 ∷ 3 ∷ 10 ∷ 6 ∷ 0 ∷ 9 ∷ 4 ∷ 9 ∷ 5 ∷ 4 ∷ 13 ∷ 14 ∷ 4 ∷ 14 ∷ 12 ∷ 13 ∷ 11 ∷ 14 ∷ 0 ∷ 0 ∷ 0 ∷ []) 1 10 (1 ∷ 4 ∷ 0 ∷ [])
+    ∷ tells (15 ∷ 0 ∷ 2 ∷ 1 ∷ 1 ∷ 5 ∷ 0 ∷ 1 ∷ 7 ∷ 1 ∷ 3 ∷ 2 ∷ 2 ∷ 7 ∷ 1 ∷ 2 ∷ 2 ∷ 3 ∷ 6 ∷ 1 ∷ 5 ∷ 5 ∷ 5 ∷ 8 ∷ 3 ∷ 7 ∷ 2 ∷ 2 ∷ 3 ∷ 10 ∷ 6 ∷ 0 ∷ 9 ∷ 4 ∷ 9 ∷ 5
+    ∷ 4 ∷ 13 ∷ 14 ∷ 4 ∷ 14 ∷ 12 ∷ 13 ∷ 11 ∷ 14 ∷ 0 ∷ 0 ∷ 0 ∷ []) 1 10 (1 ∷ 4 ∷ 0 ∷ [])
     ∷ []
 
 pub readings : answers (each shown witnesses) ≡ expectations (each shown witnesses)
@@ -83,7 +89,14 @@ abbrev refuses : List ℕ → Query → ℕ → ℕ → Row
 refuses bs q n p = record {
   bytes = bs;
   asked = q;
-  expected = record { number = n; carries = p; records = replicate (lentTo q .records) 77; marks = replicate (lentTo q .marks) 78; out = replicate (lentTo q .out) 79 };
+  expected = record {
+    number = n;
+    carries = p;
+    records = replicate (lentTo q .records) 77;
+    marks = replicate (lentTo q .marks) 78;
+    out = replicate
+        (lentTo q .out) 79;
+  };
 }
 
 abbrev faultyAt : List ℕ → ℕ → ℕ → Row

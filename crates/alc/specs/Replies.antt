@@ -9,7 +9,7 @@ use lib.IntN.{ℤ, pos, _-ℤ_}
 use Rattle.alc.specs.Sheet.{Sheet, count}
 use Rattle.alc.specs.Bytes.{Read, refused, taken, readSheet}
 use Rattle.alc.specs.Seeds.{bound}
-use Rattle.alc.specs.Model.{Answer, satisfyAnswer}
+use Rattle.alc.specs.Model.{Finding, satisfyAnswer}
 use Rattle.alc.specs.Causes.{causesAnswer}
 
 pub record Reply : Type 0 where
@@ -39,7 +39,7 @@ module _ (rs ms os : List ℕ) where
   }
 
   -- the number n where the result fits its buffer (10, 14), and the next number where it is longer (11, 15); both carry its length. 12 and 13 carry 0
-  abbrev pub finished : ℕ → Answer → Reply
+  abbrev pub finished : ℕ → Finding → Reply
   finished n r =
       elim (eqb (r .number) n) [
         | false ↦ cleared (r .number) 0 []

@@ -6,7 +6,7 @@ use mathlib.Core.Path.{_≡_}
 use mathlib.Core.List.{List, [], _∷_, _++_, map}
 use lib.ListN.{length}
 use lib.Dec.{eqb, ltb}
-use Rattle.alc.specs.Lists.{any, all, filter, upTo, each}
+use Rattle.alc.specs.Lists.{any, all, filter, upTo, each, sublists, removeOne}
 use Rattle.alc.specs.Sheet.{Line, top, bottom, name, not, and, or, some, only, Sheet, count, line}
 use Rattle.alc.specs.Meaning.{Interpretation, meetsRules}
 use Rattle.alc.specs.Label.{Mark, holds, fails, Label, blank, has, addAll, pushed, TrueAt}
@@ -94,6 +94,40 @@ quantifiers s = length (quantified s)
 
 unfoldable pub bound : Sheet → ℕ
 bound s = quantifiers s * 2 ^ (quantifiers s - 1)
+
+-- ---- "Why e·2^(e-1) suffices: a seed is fixed by the line that asked for it and by which other some and only lines contributed"
+-- what a some or only line asks for, and what it hands on; other lines do neither, and any mark stands in
+abbrev pub askedMark : Line → Mark
+askedMark top = holds 0
+askedMark bottom = holds 0
+askedMark (name a) = holds 0
+askedMark (not i) = holds 0
+askedMark (and i j) = holds 0
+askedMark (or i j) = holds 0
+askedMark (some r i) = holds i
+askedMark (only r i) = fails i
+
+abbrev pub handedMark : Line → Mark
+handedMark top = holds 0
+handedMark bottom = holds 0
+handedMark (name a) = holds 0
+handedMark (not i) = holds 0
+handedMark (and i j) = holds 0
+handedMark (or i j) = holds 0
+handedMark (some r i) = fails i
+handedMark (only r i) = holds i
+
+-- the seed that line i asks for where the lines of S contribute
+unfoldable pub seedFrom : Sheet → ℕ → List ℕ → Label
+seedFrom s i S = addAll blank (askedMark (line s i) ∷ map (λ j. handedMark (line s j)) S)
+
+-- all that line i can ask for
+unfoldable pub universeOf : Sheet → ℕ → List Label
+universeOf s i = map (seedFrom s i) (sublists (removeOne i (quantified s)))
+
+-- all that any line can ask for: of these there are e·2^(e-1) (`length-universe`)
+unfoldable pub universe : Sheet → List Label
+universe s = each (universeOf s) (quantified s)
 
 -- ---- which seeds are satisfiable, by computation: of all that a seed reaches, strike out those none of whose settled expansions has all its
 -- seeds left, until nothing changes; the seed is satisfiable if it is left over (`seed-test` is the theorem)

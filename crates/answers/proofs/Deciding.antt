@@ -1,16 +1,15 @@
 -- What the desk decides: the model's seeds hold all that its elements ask for, its words are put or their length is told, and each verdict is the sheet's answer.
 use Prim.Native.Nat.{ℕ, _+_, _*_, _≤_, _<_}
-use mathlib.Core.Bool.{true}
 use mathlib.Core.Path.{_≡_, refl, sym, _∙_, ap, subst}
 use mathlib.Core.List.{List, [], _++_, Memᴰ·of-map}
 use lib.ListN.{length, drop}
 use native.Mathlib.Omega.{arith}
-use Rattle.alc.specs.Lists.{just, all, each}
+use Rattle.alc.specs.Lists.{all, each}
 use Rattle.alc.specs.Sheet.{Sheet}
 use Rattle.alc.specs.declared.Label.{Label}
 use Rattle.alc.specs.Settle as theory
 use Rattle.alc.specs.Seeds.{Ask, asks, bound, fine, includeAll, seeds}
-use Rattle.alc.specs.Judge.{at-once, considered, firstFine, settledJoints, start}
+use Rattle.alc.specs.Judge.{at-once, considered, settledJoints, start}
 use Rattle.alc.specs.Model as model
 use Rattle.alc.specs.Model.{chosen, modelEdges, modelSeeds, modelWords, satisfyAnswer, told}
 use Rattle.alc.specs.Theorems.Lists.{each-elim, each-intro, upToFirst-found}
@@ -18,7 +17,7 @@ use Rattle.alc.specs.Theorems.Sheet.{WellFormed}
 use Rattle.alc.specs.Theorems.Reach.{again, grown-in, includeAll-grown, reach-closed, successors-known}
 use Rattle.alc.specs.Theorems.Decides.{chosen-next, nothing-yet}
 use Rattle.alc.specs.Theorems.Answers.{reply-short, reply-told}
-use Rattle.tableau.specs.declared.joint.Joint.{Joint}
+use Rattle.tableau.specs.declared.joint.Labels.{Labels}
 use Rattle.tableau.specs.Joints.{jointOf, Fit}
 use Rattle.tableau.specs.Records.{recorded}
 use Rattle.engine.specs.declared.judge.Judged.{Judged}
@@ -48,7 +47,7 @@ model-complete s wf J C known recorded-all =
     record { asked = λ k k-in q i. grown-in s D _ h q (asked q (each-intro (seeds s) J k-in i)); onward = closed }
 
 -- the records are brought into the model's order
-pub model-ready : (s : Sheet) → WellFormed s → (j : Joint) → Fit s j → {used seeds : ℕ} {recs marks recs′ marks′ : List ℕ} → Sound s used recs marks
+pub model-ready : (s : Sheet) → WellFormed s → (j : Labels) → Fit s j → {used seeds : ℕ} {recs marks recs′ marks′ : List ℕ} → Sound s used recs marks
     → AllSeedsIn s (jointOf j) (recorded used recs) → used ≤ 4096
     → Shuffled used recs marks recs′ marks′ × (seeds ≤ used) × (recorded seeds recs′ ≡ modelSeeds s (jointOf j)) → Ready s j used seeds recs′ marks′
 model-ready s wf j fit {used} {seeds} {recs} sound recorded-all few (shuffled, front, is) = record {
@@ -60,7 +59,7 @@ model-ready s wf j fit {used} {seeds} {recs} sound recorded-all few (shuffled, f
 }
 
 -- what is written then are the model's words
-module _ {s : Sheet} {j : Joint} {used seeds : ℕ} {recs marks : List ℕ} (r : Ready s j used seeds recs marks) (is : recorded seeds recs ≡ modelSeeds s (jointOf j)) where
+module _ {s : Sheet} {j : Labels} {used seeds : ℕ} {recs marks : List ℕ} (r : Ready s j used seeds recs marks) (is : recorded seeds recs ≡ modelSeeds s (jointOf j)) where
   pub model-words : wordsOf s (jointOf j) (recorded seeds recs) ≡ modelWords s (jointOf j)
   model-words = ap (wordsOf s (jointOf j)) is ∙ words-are s (jointOf j)
 
@@ -78,7 +77,7 @@ module _ (ws before : List ℕ) (n : ℕ) (e : n ≡ length ws) where
   put-length b = record { fits = λ c. absurd (omega arith); long = λ _. (ap LongModel e, refl) }
 
 -- ---- the verdict is the sheet's answer
-module _ {before : List ℕ} {a : model.Answer} where
+module _ {before : List ℕ} {a : model.Finding} where
   decided-put : {r : Answer} {after : List ℕ} (ws : List ℕ) → a ≡ record { number = 10; out = ws } → Put ws before r after → Decided a before r after
   decided-put ws e p = rw e (record { ten = λ _. p; twelve = λ q. absurd (omega arith); thirteen = λ q. absurd (omega arith) })
 

@@ -42,7 +42,7 @@ drop-replicate (suc k) (suc n) a = let less : n - k ≡ suc n - suc k = omega ar
 -- ---- the list buffer, cleared before the causes are listed
 module _ (s : Sheet) (port class room slots : ℕ) (before after : List ℕ) (r : Listed) (blank : before ≡ replicate slots 0) (same : length after ≡ length before)
     (l : ListedTo s port class room before r after) where
-  abbrev answer : theory.Answer
+  abbrev answer : theory.Finding
   answer = causesAnswer s port class room
 
   as-long : length after ≡ slots

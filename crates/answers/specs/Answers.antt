@@ -38,13 +38,13 @@ pub record Put (ws before : List ℕ) (r : Answer) (after : List ℕ) : Type 0 w
   pub long : length before < length ws → (r ≡ LongModel (length ws)) × (after ≡ before)
 
 -- the answer for a sheet that was read
-pub record Decided (a : theory.Answer) (before : List ℕ) (r : Answer) (after : List ℕ) : Type 0 where
+pub record Decided (a : theory.Finding) (before : List ℕ) (r : Answer) (after : List ℕ) : Type 0 where
   pub ten : a .number ≡ 10 → Put (a .out) before r after
   pub twelve : a .number ≡ 12 → (r ≡ Unsatisfiable) × (after ≡ before)
   pub thirteen : a .number ≡ 13 → (r ≡ OutOfSpace) × (after ≡ before)
 
 -- the answer to a query that is on the sheet, over a list buffer of so many slots
-pub record Queried (a : theory.Answer) (slots : ℕ) (r : Answer) (after : List ℕ) : Type 0 where
+pub record Queried (a : theory.Finding) (slots : ℕ) (r : Answer) (after : List ℕ) : Type 0 where
   pub fits : a .number ≡ 14 → length (a .out) ≤ slots → (r ≡ Causes (length (a .out))) × (after ≡ a .out ++ replicate (slots - length (a .out)) 0)
   pub long : a .number ≡ 14 → slots < length (a .out) → (r ≡ LongList (length (a .out))) × (after ≡ replicate slots 0)
   pub thirteen : a .number ≡ 13 → (r ≡ OutOfSpace) × (after ≡ replicate slots 0)

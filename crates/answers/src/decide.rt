@@ -6,7 +6,7 @@ use engine::judge::start_joint;
 use model::count_edges;
 use model::write_model;
 use order::order;
-use tableau::joint::Joint;
+use tableau::joint::Labels;
 ghost use mathlib.Core.Path.{_≡_};
 ghost use Prim.Native.Nat.{_≤_};
 ghost use lib.ListN.{length};
@@ -20,7 +20,7 @@ ghost use Rattle.answers.specs.Answers.{Put, Decided};
 // Satisfiable: the model, or how long it is.
 fn put_model(
     plan: &[u32; plan::SIZE],
-    j: Joint,
+    j: Labels,
     records: &mut [u64],
     marks: &mut [u8],
     used: usize,

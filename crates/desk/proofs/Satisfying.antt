@@ -39,7 +39,7 @@ module _ (rs ms os : List ℕ) where
     bare x e z h = alone x h ∙ λ i. cleared rs ms os (sym e i) (z i) []
 
     -- a result where it fits its buffer, where it does not, and none
-    pub finished-reply : (n : ℕ) (a : theory.Answer) → (a .number ≡ n → length (a .out) ≤ length os → reply ≡ cleared rs ms os n (length (a .out)) (a .out))
+    pub finished-reply : (n : ℕ) (a : theory.Finding) → (a .number ≡ n → length (a .out) ≤ length os → reply ≡ cleared rs ms os n (length (a .out)) (a .out))
         → (a .number ≡ n → length os < length (a .out) → reply ≡ cleared rs ms os (suc n) (length (a .out)) [])
         → ((a .number ≡ n → ⊥) → reply ≡ cleared rs ms os (a .number) 0 []) → reply ≡ finished rs ms os n a
     finished-reply n a x y z = elim (finished-cases rs ms os n a) [ fits e f q ↦ x e f ∙ sym q | long e f q ↦ y e f ∙ sym q | none e q ↦ z e ∙ sym q ]

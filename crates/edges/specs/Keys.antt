@@ -57,7 +57,8 @@ edgeOf x k = x ∷ k / 8192 ∷ k % 8192 ∷ []
 -- the edges from x, whose label is l, sorted by role and to: one row of modelEdges
 unfoldable pub edgesFrom : Sheet → Joint → List Label → Label → ℕ → List (List ℕ)
 edgesFrom s J B l x =
-    each (λ r. each (λ y. cond (any (leads J B r y) (asks s l) || any (asserted r x y) (s .roles)) ((x ∷ r ∷ y ∷ []) ∷ []) []) (upTo (length J + length B))) (upTo roleCount)
+    each (λ r. each (λ y. cond (any (leads J B r y) (asks s l) || any (asserted r x y) (s .roles)) ((x ∷ r ∷ y ∷ []) ∷ []) []) (upTo (length J + length B)))
+    (upTo roleCount)
 
 -- all seeds of a settled label are recorded
 abbrev pub SeedsIn : Sheet → Label → List Label → Type 0

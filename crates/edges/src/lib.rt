@@ -3,7 +3,7 @@
 use alc::Label;
 use seeds::Asked;
 use seeds::asked_at;
-use tableau::joint::Joint;
+use tableau::joint::Labels;
 use tableau::records::find;
 use tableau::records::word_of;
 ghost use mathlib.Core.Path.{_≡_};
@@ -101,7 +101,7 @@ fn asked_edges(
 // And along the role assertions.
 pub fn edges_of(
     plan: &[u32; plan::SIZE],
-    j: Joint,
+    j: Labels,
     x: usize,
     l: Label,
     records: &[u64],

@@ -22,7 +22,7 @@ use Rattle.alc.specs.Theorems.Steps.{unsetAll}
 use Rattle.engine.specs.declared.judge.Verdict.{Verdict}
 use Rattle.engine.specs.declared.judge.Verdict.the-variants.{Full, Going, Fine}
 use Rattle.engine.specs.declared.judge.Judged.{Judged}
-use Rattle.tableau.specs.declared.joint.Joint.{Joint}
+use Rattle.tableau.specs.declared.joint.Labels.{Labels}
 use Rattle.tableau.specs.Records.{recorded}
 use Rattle.tableau.specs.Walks.{standing}
 use Rattle.tableau.specs.Joints.{jointOf, Fit}
@@ -124,7 +124,7 @@ module _ (s : Sheet) where
   found = first (all (fine s))
 
   -- one is settled
-  told-one : (Js : List theory.Joint) (j : Joint) (v : Verdict) (recs marks : List ℕ) → ToldOne s (Js ++ (jointOf j ∷ [])) (jointOf j) v recs marks
+  told-one : (Js : List theory.Joint) (j : Labels) (v : Verdict) (recs marks : List ℕ) → ToldOne s (Js ++ (jointOf j ∷ [])) (jointOf j) v recs marks
       → ToldAll s Js (jointOf j ∷ []) (record { joint = j; verdict = v }) v recs marks
   told-one Js j Full recs marks h = rw (upToFirst-one (all (fine s)) (jointOf j)) h
   told-one Js j (Going n) recs marks (h, e) = rw (upToFirst-one (all (fine s)) (jointOf j)) (h, rw (e, first))
@@ -162,7 +162,7 @@ module _ (s : Sheet) where
 pub not-going : {v : Verdict} → OneOf (0 ∷ 2 ∷ []) (tagOf the-type v) → (n : ℕ) → v ≡ Going n → ⊥
 not-going {v} k n e = ⊎-elim (λ x. omega arith) (λ x. omega arith) (rw e at k)
 
-module _ (s : Sheet) (j : Joint) (fit : Fit s j) (used : ℕ) (before marks : List ℕ) where
+module _ (s : Sheet) (j : Labels) (fit : Fit s j) (used : ℕ) (before marks : List ℕ) where
   -- it clashes: there are none
   pub judged-clashed : Lent used before marks → Known s (recorded used before) → settle s (s .roles) (jointOf j) ≡ []
       → JudgedAll s (jointOf j) used before marks (record { joint = j; verdict = Going used }) before marks
@@ -230,13 +230,13 @@ module _ (s : Sheet) (J K : theory.Joint) (used : ℕ) (before marks : List ℕ)
           first-told Js ledger = subst (λ (v : Verdict). ToldAll s Js (settle s (s .roles) K) r v mid marks₁) going (k .told Js ledger)
 
 -- ---- a joint label that the code has made from j: f of its label at a, so that it is K
-pub record Branch (s : Sheet) (K : theory.Joint) (t : ℕ) (r : Joint) : Type 0 where
+pub record Branch (s : Sheet) (K : theory.Joint) (t : ℕ) (r : Labels) : Type 0 where
   pub settles : settle s (s .roles) (jointOf r) ≡ settle s (s .roles) K
   pub fits : Fit s r
   pub less : unsetAll 32 (jointOf r) < t
 
 -- so it is, and fewer of its marks are unset
-pub branch : {s : Sheet} {j : Joint} {t : ℕ} → Fit s j → unsetAll 32 (jointOf j) ≡ t → (r : Joint) (a : ℕ) (f : Label → Label) → a < j .count
+pub branch : {s : Sheet} {j : Labels} {t : ℕ} → Fit s j → unsetAll 32 (jointOf j) ≡ t → (r : Labels) (a : ℕ) (f : Label → Label) → a < j .count
     → unsetAll 32 (set (jointOf j) a (f (label (jointOf j) a))) < unsetAll 32 (jointOf j) → {l : Label} → l ≡ f (getD (j .labels) a blank)
     → (jointOf r ≡ set (jointOf j) a l) × (r .count ≡ j .count) → Branch s (set (jointOf j) a (f (label (jointOf j) a))) t r
 branch {s} {j} {t} fit now r a f inside fewer {l} e w = record {

@@ -24,7 +24,7 @@ use Rattle.alc.specs.Theorems.Moves.{label-in, label-of}
 use Rattle.alc.specs.Theorems.Seeds.{among-in, among-true, seeds-in}
 use Rattle.alc.specs.Theorems.Survive.{Closed, strike-keeps, survivor-satisfiable}
 use Rattle.alc.specs.Theorems.Decides.{seed-complete, seed-sound, seeds-known}
-use Rattle.alc.specs.Theorems.Reach.{ClosedBy, Grown, again, closed-by-successors, grown-at, grown-in, grown-refl, grown-trans, includeAll-all, includeAll-grown, reach-all, reach-closed, successors-known}
+use Rattle.alc.specs.Theorems.Reach.{ClosedBy, Grows, again, closed-by-successors, grown-at, grown-in, grown-refl, grown-trans, includeAll-all, includeAll-grown, reach-all, reach-closed, successors-known}
 use Rattle.alc.specs.Theorems.Records.{records-are, records-distinct}
 use Rattle.tableau.specs.Records.{GrownTo, labelOf, recorded}
 use Rattle.tableau.specs.Walks.{standing}
@@ -70,9 +70,6 @@ module _ (used : ℕ) (recs : List ℕ) where
     λ (i, i<, z, e). Memᴰ·cast (sym e)
         (Memᴰ·map (λ i. labelOf (getD recs i 0)) (filter-intro (λ i. eqb (getD m i 0) 0) (upTo used) (upTo-intro used i i<) (eq-eqb (getD m i 0) 0 z))),
   )
-
-  pub standing-recorded : used ≤ length recs → (m : List ℕ) (l : Label) → l ∈ standing used recs m → l ∈ recorded used recs
-  standing-recorded enough m l h = let (i, i<, z, e) = standing-in m l .0 h in recorded-in enough l .1 (i, i<, e)
 
   -- fewer stand where one more is struck out
   pub standing-fewer : (m : List ℕ) (i : ℕ) → i < used → i < length m → getD m i 0 ≡ 0 → length (standing used recs (set m i 1)) < length (standing used recs m)
@@ -180,20 +177,20 @@ abbrev pub closing : Sheet → Joint → ℕ → List Label → List Label
 closing s J i C = reach (successors s) (bound s) i (begun s J C)
 
 module _ (s : Sheet) where
-  known-again : (C : List Label) → Known s C → Grown s C C
+  known-again : (C : List Label) → Known s C → Grows s C C
   known-again C known = grown-refl s C (known .distinct) (known .known)
 
-  pub grown-known : {C D : List Label} → Grown s C D → Known s D
+  pub grown-known : {C D : List Label} → Grows s C D → Known s D
   grown-known g = record { distinct = g .distinct; known = g .known }
 
-  pub grown-longer : {C D : List Label} → Grown s C D → length C ≤ length D
+  pub grown-longer : {C D : List Label} → Grows s C D → length C ≤ length D
   grown-longer {C} g = rw (g .is) (omega (arith, length-append C (g .rest)))
 
-  pub begun-grown : (J : Joint) → closes s J ≡ false → (C : List Label) → Known s C → Grown s C (begun s J C) × ((q : Label) → q ∈ each (seeds s) J → q ∈ begun s J C)
+  pub begun-grown : (J : Joint) → closes s J ≡ false → (C : List Label) → Known s C → Grows s C (begun s J C) × ((q : Label) → q ∈ each (seeds s) J → q ∈ begun s J C)
   begun-grown J clear C known = includeAll-grown s C (each (seeds s) J) (known-again C known) (λ q h.
       let (k, k-in, i) = each-elim (seeds s) J h in seeds-known s k q (any-none (clashes s) J clear k k-in) i)
 
-  pub reach-grown : (f i : ℕ) (C : List Label) → Known s C → Grown s C (reach (successors s) f i C)
+  pub reach-grown : (f i : ℕ) (C : List Label) → Known s C → Grows s C (reach (successors s) f i C)
   reach-grown zero i C known = known-again C known
   reach-grown (suc f) i C known =
       let D = includeAll C (successors s (label C i)) in
@@ -220,7 +217,7 @@ module _ (s : Sheet) where
 
 -- the records C, which were reached from Js, have become E with the joint label J
 pub record Extended (s : Sheet) (Js : List Joint) (J : Joint) (C E : List Label) : Type 0 where
-  pub grown : Grown s C E
+  pub grown : Grows s C E
   pub closed : Closed s E
   pub asked : (q : Label) → q ∈ each (seeds s) J → q ∈ E
   pub reached : (l : Label) → (l ∈ E) ↔ Reached s (Js ++ (J ∷ [])) l
@@ -248,12 +245,12 @@ module _ (s : Sheet) (Js : List Joint) (J : Joint) (C : List Label) (reached : (
       let (h, closed) = reach-closed s (successors s) (successors-known s) (bound s) (length C) D (again s C D g)
       (λ j j< j<D q q-in. grown-in s C D g q
       (closed-successors s C (reached-closed s Js C reached) (label C j) (label-in C j j<) q (subst (λ (k : Label). q ∈ successors s k) (grown-at s C D g j j<) q-in))) (omega arith) in
-      let all : Grown s C E = grown-trans s C D E g h in
+      let all : Grows s C E = grown-trans s C D E g h in
       let shut : Closed s E = closed-by-successors s E closed in
       let seed-in : (q : Label) → q ∈ each (seeds s) J → q ∈ E = λ q i. grown-in s D E h q (asked q i) in
       record { grown = all; closed = shut; asked = seed-in; reached = λ l. (closing-reached (length C) l, inside E all shut seed-in l) }
     where
-      inside : (E : List Label) → Grown s C E → Closed s E → ((q : Label) → q ∈ each (seeds s) J → q ∈ E) → (l : Label) → Reached s (Js ++ (J ∷ [])) l → l ∈ E
+      inside : (E : List Label) → Grows s C E → Closed s E → ((q : Label) → q ∈ each (seeds s) J → q ∈ E) → (l : Label) → Reached s (Js ++ (J ∷ [])) l → l ∈ E
       inside E g closed asked l (at-once K K-in k k-in q q-in e) =
           ⊎-elim
           (λ i. grown-in s C E g l (reached l .1 (at-once K i k k-in q q-in e)))
@@ -345,7 +342,7 @@ module _ (s : Sheet) (J : Joint) (clear : closes s J ≡ false) (used : ℕ) (be
     abbrev reachedFrom : List Label
     reachedFrom = reach (successors s) (bound s) used (recorded k mid)
 
-    all-grown : Grown s (recorded k mid) reachedFrom
+    all-grown : Grows s (recorded k mid) reachedFrom
     all-grown = reach-grown s (bound s) used (recorded k mid) (begun-ready .2)
 
     -- it is what the ledger's laws speak of

@@ -3,7 +3,7 @@ use Prim.Native.Nat.{ℕ, zero, suc, _+_, _-_, _≤_, _<_, max}
 use mathlib.Core.Bool.{Bool, true, false, cond, _&&_, _||_}
 use mathlib.Core.Path.{_≡_, refl, sym, _∙_, ap, subst}
 use mathlib.Core.Logic.{_⊎_, inl, inr, ⊎-elim}
-use mathlib.Core.List.{List, [], _∷_, _++_, append-nil, map, map-map}
+use mathlib.Core.List.{List, [], _∷_, append-nil, map, map-map}
 use lib.ListN.{length, getD, set, take, drop, replicate, length-map, drop-of-length-le}
 use lib.Seq.{drop-cons, getD-take}
 use lib.Dec.{ltb}
@@ -21,10 +21,10 @@ use Rattle.alc.specs.Settle.{label}
 use Rattle.alc.specs.Seeds.{bound, includeAll, reach, seeds, successors}
 use Rattle.alc.specs.Judge.{Entry, enter, entries, start}
 use Rattle.alc.specs.Theorems.Sheet.{well-formed}
-use Rattle.alc.specs.Theorems.Reach.{Grown as Grows, grown-bound, grown-refl, includeAll-append, includeAll-grown, successors-known}
+use Rattle.alc.specs.Theorems.Reach.{Grows, grown-bound, grown-refl, includeAll-append, includeAll-grown, successors-known}
 use Rattle.alc.specs.Theorems.Lists.{Found, found, missing, and-left, and-right, any-intro, any-false, cases, clashing, first-is, getD-in, length-from, map-from, same?}
 use Rattle.tableau.specs.declared.walks.Picked.the-variants.{Nothing, Found as Picks}
-use Rattle.tableau.specs.declared.joint.Joint.{Joint}
+use Rattle.tableau.specs.declared.joint.Labels.{Labels}
 use Rattle.tableau.specs.declared.records.Grown.{Grown}
 use Rattle.tableau.specs.declared.records.Grown.the-variants.{Full, Used}
 use Rattle.sheet.specs.Form.{classOf}
@@ -238,7 +238,7 @@ module _ {s : Sheet} {whole : List Label} {before : List ℕ} {i used : ℕ} {bu
           let (f, b, e) = next in
           fill-full (g .filling) t (rw (← e) (grown-longer s (reach-grown s f (i + 1) grownBy (grown-known s grown-so)))) d
 
-pub joint-at : (j : Joint) (a : ℕ) → a < j .count → getD (j .labels) a blank ≡ label (jointOf j) a
+pub joint-at : (j : Labels) (a : ℕ) → a < j .count → getD (j .labels) a blank ≡ label (jointOf j) a
 joint-at j a h = sym (getD-take (j .count) (j .labels) a blank h)
 
 -- the seeds of those from a on
@@ -332,25 +332,25 @@ module _ {p : List ℕ} (h : Prepared p) where
       (omega (arith, individuals-are p), omega (arith, lines-fit h))
 
 -- the class assertions from i on are to be entered
-pub record Entering (p : List ℕ) (j : Joint) (i : ℕ) : Type 0 where
+pub record Entering (p : List ℕ) (j : Labels) (i : ℕ) : Type 0 where
   pub fit : Fit (planSheet p) j
   pub rest : enter (map (entryAt p) (from i (getD p 387 0 - i))) (jointOf j) ≡ start (planSheet p) []
 
-pub entering : {p : List ℕ} → Prepared p → (j : Joint) → (jointOf j ≡ replicate (max 1 (getD p 386 0)) blank) × (j .count ≡ max 1 (getD p 386 0)) → Entering p j 0
+pub entering : {p : List ℕ} → Prepared p → (j : Labels) → (jointOf j ≡ replicate (max 1 (getD p 386 0)) blank) × (j .count ≡ max 1 (getD p 386 0)) → Entering p j 0
 unfolding start
 entering {p} h j (e, c) = record {
   fit = record { small = omega (arith, individuals-fit h); each-one = rw (individuals-are p) c };
   rest = rw (e, entries-are p, individuals-are p) (let z : getD p 387 0 - 0 ≡ getD p 387 0 = omega arith in rw z);
 }
 
-pub individual-inside : {p : List ℕ} {j : Joint} {i : ℕ} → Prepared p → Entering p j i → i < getD p 387 0 → getD p (192 + i) 0 < j .count
+pub individual-inside : {p : List ℕ} {j : Labels} {i : ℕ} → Prepared p → Entering p j i → i < getD p 387 0 → getD p (192 + i) 0 < j .count
 individual-inside {p} {j} {i} h g b = omega (arith, class-inside h i b .0, g .fit .each-one, individuals-are p)
 
-module _ {p : List ℕ} {j : Joint} {i : ℕ} (g : Entering p j i) where
+module _ {p : List ℕ} {j : Labels} {i : ℕ} (g : Entering p j i) where
   pub entered : getD p 387 0 ≤ i → jointOf j ≡ start (planSheet p) []
   entered h = let z : getD p 387 0 - i ≡ 0 = omega arith in rw z at (g .rest)
 
-  pub enter-on : i < getD p 387 0 → (r : Joint) (l : Label) → l ≡ label (jointOf j) (getD p (192 + i) 0)
+  pub enter-on : i < getD p 387 0 → (r : Labels) (l : Label) → l ≡ label (jointOf j) (getD p (192 + i) 0)
       → (jointOf r ≡ set (jointOf j) (getD p (192 + i) 0) (add l (holds (getD p (224 + i) 0)))) × (r .count ≡ j .count) → Entering p r (i + 1)
   enter-on h r l is (e, c) = record {
     fit = record { small = omega (arith, g .fit .small); each-one = c ∙ g .fit .each-one };

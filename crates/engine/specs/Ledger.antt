@@ -10,9 +10,8 @@ use Rattle.alc.specs.Lists.{_∈_, Distinct}
 use Rattle.alc.specs.Sheet.{Sheet}
 use Rattle.alc.specs.declared.Label.{Label}
 use Rattle.alc.specs.Settle.{Joint}
-use Rattle.alc.specs.Seeds.{good, seedSurvives}
+use Rattle.alc.specs.Seeds.{good, seedSurvives, universe}
 use Rattle.alc.specs.Judge.{Reached}
-use Rattle.alc.specs.Theorems.Bound.{universe}
 use Rattle.tableau.specs.Records.{labelOf, recorded}
 use Rattle.tableau.specs.Walks.{standing}
 
@@ -49,7 +48,8 @@ module _ (s : Sheet) (used : ℕ) (recs : List ℕ) where
 -- m′ comes from m by striking out records from `start` on that had no such expansion, one after the other
 pub data Struck (s : Sheet) (used start : ℕ) (recs m : List ℕ) : List ℕ → Type 0 where
   none : Struck s used start recs m m
-  one : {m′ : List ℕ} (i : ℕ) → Struck s used start recs m m′ → start ≤ i → i < used → getD m′ i 0 ≡ 0 → stands s used recs m′ i ≡ false → Struck s used start recs m (set m′ i 1)
+  one : {m′ : List ℕ} (i : ℕ) → Struck s used start recs m m′ → start ≤ i → i < used → getD m′ i 0 ≡ 0 → stands s used recs m′ i ≡ false
+      → Struck s used start recs m (set m′ i 1)
 
 -- nothing more is to be struck out
 abbrev pub Stable : Sheet → ℕ → ℕ → List ℕ → List ℕ → Type 0

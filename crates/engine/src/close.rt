@@ -2,7 +2,6 @@
 use tableau::records::Grown;
 use tableau::records::label_of;
 use tableau::walks::collect;
-ghost use mathlib.Core.Path.{_≡_};
 ghost use Prim.Native.Nat.{_≤_};
 ghost use lib.ListN.{length};
 ghost use Rattle.alc.specs.Seeds.{successors, bound, reach};

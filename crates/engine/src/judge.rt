@@ -4,22 +4,21 @@ use crate::close::close;
 use crate::strike::strike;
 use alc::Label;
 use alc::Mark;
-use tableau::joint::Joint;
-use tableau::joint::Next;
+use tableau::joint::JointStep;
+use tableau::joint::Labels;
 use tableau::joint::next_step;
 use tableau::records::Grown;
 use tableau::walks::include_seeds;
-use tableau::walks::seeds_stand;
 use zeros::clear_marks;
 ghost use mathlib.Core.Path.{_≡_};
 ghost use mathlib.Core.Bool.{false};
-ghost use mathlib.Core.List.{[], _∷_};
+ghost use mathlib.Core.List.{[]};
 ghost use Prim.Native.Nat.{_<_, _≤_, max};
 ghost use lib.ListN.{length, replicate};
 ghost use Rattle.alc.specs.Lists.{all, each};
 ghost use Rattle.alc.specs.Sheet.{count};
 ghost use Rattle.alc.specs.Label.{blank};
-ghost use Rattle.alc.specs.Settle.{closes, settle};
+ghost use Rattle.alc.specs.Settle.{closes};
 ghost use Rattle.alc.specs.Seeds.{seeds, includeAll, served};
 ghost use Rattle.alc.specs.Judge.{start};
 ghost use Rattle.plan.specs.Plan.{planSheet, Prepared};
@@ -38,28 +37,28 @@ pub enum Verdict {
 
 // The verdict, and the joint label that is fine, where one is.
 pub struct Judged {
-    pub joint: Joint,
+    pub joint: Labels,
     pub verdict: Verdict,
 }
 
 // ---- where the work begins
 
 // With no individuals, one unnamed element stands in.
-fn blank_joint(individuals: usize) -> Joint
+fn blank_joint(individuals: usize) -> Labels
     requires { ⌜ individuals ≤ 8 ⌝ }
     ensures { λ r. ⌜ (jointOf r ≡ replicate (max 1 individuals) blank) × (r .count ≡ max 1 individuals) ⌝ }
 {
     let none = Label::blank();
     let labels = [none; 8];
     let count = if individuals == 0 { 1 } else { individuals };
-    Joint {
+    Labels {
         labels: labels,
         count: count,
     }
 }
 
 // The class assertions.
-pub fn start_joint(plan: &[u32; plan::SIZE]) -> Joint
+pub fn start_joint(plan: &[u32; plan::SIZE]) -> Labels
     requires { ⌜ Prepared (now plan) ⌝ }
     ensures { λ r. ⌜ (jointOf r ≡ start (planSheet (now (plan .entry))) []) × Fit (planSheet (now (plan .entry))) r ⌝ }
 {
@@ -79,7 +78,7 @@ pub fn start_joint(plan: &[u32; plan::SIZE]) -> Joint
 // ---- one joint label
 
 // The seeds of a joint label, elements ascending.
-fn include_joint(plan: &[u32; plan::SIZE], j: Joint, records: &mut [u64], start: usize) -> Grown
+fn include_joint(plan: &[u32; plan::SIZE], j: Labels, records: &mut [u64], start: usize) -> Grown
     requires { ⌜ Prepared (now plan) ⌝ }
     requires { ⌜ (j .count ≤ 8) × (start ≤ length (now records)) ⌝ }
     ensures { λ r. ⌜ GrownTo (includeAll (recorded start (now (records .entry))) (each (seeds (planSheet (now (plan .entry)))) (jointOf j))) (now (records .entry)) r (now (records .exit)) ⌝ }
@@ -102,7 +101,7 @@ fn include_joint(plan: &[u32; plan::SIZE], j: Joint, records: &mut [u64], start:
 // All seeds of a joint label are records that are not struck out.
 fn joint_stands(
     plan: &[u32; plan::SIZE],
-    j: Joint,
+    j: Labels,
     records: &[u64],
     marks: &[u8],
     used: usize,
@@ -127,7 +126,7 @@ fn joint_stands(
 // The records from `start` to `used` are new and closed: which of them are satisfiable, and is the joint label fine?
 fn weigh(
     plan: &[u32; plan::SIZE],
-    j: Joint,
+    j: Labels,
     records: &[u64],
     marks: &mut [u8],
     start: usize,
@@ -150,7 +149,7 @@ fn weigh(
 // A settled joint label: what it reaches is recorded and weighed.
 fn judge_settled(
     plan: &[u32; plan::SIZE],
-    j: Joint,
+    j: Labels,
     records: &mut [u64],
     marks: &mut [u8],
     used: usize,
@@ -175,7 +174,7 @@ fn judge_settled(
 
 // ---- all of them
 
-fn told(joint: Joint, verdict: Verdict) -> Judged
+fn told(joint: Labels, verdict: Verdict) -> Judged
     ensures { λ r. ⌜ r ≡ record { joint = joint; verdict = verdict } ⌝ }
 {
     Judged {
@@ -187,7 +186,7 @@ fn told(joint: Joint, verdict: Verdict) -> Judged
 // The settled joint labels that j leads to, first branch first; the marks still unset fall at every call.
 pub fn judge(
     plan: &[u32; plan::SIZE],
-    j: Joint,
+    j: Labels,
     records: &mut [u64],
     marks: &mut [u8],
     used: usize,
@@ -200,13 +199,13 @@ pub fn judge(
 {
     let next = next_step(plan, j);
     match next {
-        Next::Clashed => told(j, Verdict::Going(used)),
-        Next::Settled => told(j, judge_settled(plan, j, records, marks, used)),
-        Next::Onward(a, more) => {
+        JointStep::Clashed => told(j, Verdict::Going(used)),
+        JointStep::Settled => told(j, judge_settled(plan, j, records, marks, used)),
+        JointStep::Onward(a, more) => {
             let l = j.labels[a];
             judge(plan, j.with(a, l.join(more)), records, marks, used)
         }
-        Next::Split(a, m, n) => {
+        JointStep::Split(a, m, n) => {
             let l = j.labels[a];
             let first = judge(plan, j.with(a, l.add(m)), records, marks, used);
             let verdict = first.verdict;

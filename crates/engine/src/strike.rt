@@ -5,8 +5,7 @@ use tableau::walks::Picked;
 use tableau::walks::pick;
 ghost use mathlib.Core.Path.{_≡_};
 ghost use mathlib.Core.Bool.{true, false};
-ghost use Prim.Native.Nat.{_<_, _≤_};
-ghost use lib.ListN.{length};
+ghost use Prim.Native.Nat.{_<_};
 ghost use Rattle.plan.specs.Plan.{planSheet, Prepared};
 ghost use Rattle.engine.specs.Ledger.{Lent, struckAt, Pass, Stable, Struck};
 

@@ -12,7 +12,7 @@ use lib.Dec.{eqb, ltb}
 use lib.Bits.{bitOr, or-lt}
 use borrow.Author.Tests.{ltb-true, ltb-false, eq-eqb, ne-eqb}
 use Rattle.alc.specs.Bits.{bit, put}
-use Rattle.alc.specs.Lists.{_∈_, Distinct, any, all, each, from, upTo}
+use Rattle.alc.specs.Lists.{_∈_, Distinct, any, all, each, upTo}
 use Rattle.alc.specs.Sheet.{Sheet, count, line, lineInLimits, inLimits, nameCount, roleCount}
 use Rattle.alc.specs.declared.Label.{Label}
 use Rattle.alc.specs.Label.{isName}
@@ -26,7 +26,7 @@ use Rattle.alc.specs.Theorems.Counting.{length-each}
 use Rattle.alc.specs.Theorems.Bits.{bit-none, bit-put, bit-put-other, put-word, bit-ext-below}
 use Rattle.alc.specs.Theorems.Words.{mask-small, mask-bit}
 use Rattle.sheet.specs.Form.{lineFrom}
-use Rattle.tableau.specs.declared.joint.Joint.{Joint}
+use Rattle.tableau.specs.declared.joint.Labels.{Labels}
 use Rattle.edges.specs.declared.Edges.{Edges}
 use Rattle.plan.specs.Plan.{planSheet, Prepared}
 use Rattle.tableau.specs.Records.{labelOf, recorded}
@@ -244,7 +244,7 @@ distinct-front : {A : Type 0} (xs ys : List A) → Distinct (xs ++ ys) → Disti
 distinct-front [] ys d = tt
 distinct-front (x ∷ xs) ys (new, d) = (λ m. new (Memᴰ·append-left ys m), distinct-front xs ys d)
 
-module _ {s : Sheet} {j : Joint} {used seeds : ℕ} {recs marks : List ℕ} (r : Ready s j used seeds recs marks) (long : length (jointOf j) ≡ j .count) where
+module _ {s : Sheet} {j : Labels} {used seeds : ℕ} {recs marks : List ℕ} (r : Ready s j used seeds recs marks) (long : length (jointOf j) ≡ j .count) where
   abbrev seedsOf : List Label
   seedsOf = recorded seeds recs
 

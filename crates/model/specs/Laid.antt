@@ -7,13 +7,13 @@ use Rattle.alc.specs.Sheet.{Sheet, nameCount}
 use Rattle.alc.specs.declared.Label.{Label}
 use Rattle.alc.specs.Settle as theory
 use Rattle.alc.specs.Model.{nameMask, labelAt, chosen, modelEdges}
-use Rattle.tableau.specs.declared.joint.Joint.{Joint}
+use Rattle.tableau.specs.declared.joint.Labels.{Labels}
 use Rattle.tableau.specs.Records.{recorded}
 use Rattle.tableau.specs.Joints.{jointOf, Fit}
 use Rattle.order.specs.Sound.{Sound, Complete}
 
 -- the model's seeds are the first `seeds` records, and they hold all that its elements ask for
-pub record Ready (s : Sheet) (j : Joint) (used seeds : ℕ) (recs marks : List ℕ) : Type 0 where
+pub record Ready (s : Sheet) (j : Labels) (used seeds : ℕ) (recs marks : List ℕ) : Type 0 where
   pub sound : Sound s used recs marks
   pub fit : Fit s j
   pub front : seeds ≤ used

@@ -4,14 +4,13 @@
 use edges::Edges;
 use edges::edges_of;
 use order::label_at;
-use tableau::joint::Joint;
+use tableau::joint::Labels;
 ghost use mathlib.Core.Path.{_≡_};
 ghost use mathlib.Core.List.{_++_};
 ghost use Prim.Native.Nat.{_+_, _*_, _<_, _≤_};
 ghost use lib.ListN.{length, take, drop};
 ghost use Rattle.alc.specs.Lists.{each};
-ghost use Rattle.alc.specs.Sheet.{nameCount};
-ghost use Rattle.alc.specs.Model.{nameMask, chosen, modelEdges};
+ghost use Rattle.alc.specs.Model.{chosen, modelEdges};
 ghost use Rattle.plan.specs.Plan.{planSheet, Prepared};
 ghost use Rattle.tableau.specs.Records.{recorded};
 ghost use Rattle.tableau.specs.Joints.{jointOf};
@@ -40,7 +39,7 @@ fn names_of(plan: &[u32; plan::SIZE], set: u32) -> u32
 // How many edges there are.
 pub fn count_edges(
     plan: &[u32; plan::SIZE],
-    j: Joint,
+    j: Labels,
     records: &[u64],
     marks: &[u8],
     used: usize,
@@ -66,7 +65,7 @@ pub fn count_edges(
 fn write_masks(
     out: &mut [u32],
     plan: &[u32; plan::SIZE],
-    j: Joint,
+    j: Labels,
     records: &[u64],
     marks: &[u8],
     used: usize,
@@ -109,7 +108,7 @@ fn write_from(out: &mut [u32], start: usize, x: usize, edges: Edges) -> usize
 fn write_edges(
     out: &mut [u32],
     plan: &[u32; plan::SIZE],
-    j: Joint,
+    j: Labels,
     records: &[u64],
     marks: &[u8],
     used: usize,
@@ -135,7 +134,7 @@ fn write_edges(
 pub fn write_model(
     out: &mut [u32],
     plan: &[u32; plan::SIZE],
-    j: Joint,
+    j: Labels,
     records: &[u64],
     marks: &[u8],
     used: usize,

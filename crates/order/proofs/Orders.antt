@@ -18,13 +18,13 @@ use Rattle.alc.specs.declared.Label.{Label}
 use Rattle.alc.specs.Label.{blank}
 use Rattle.alc.specs.Settle as theory
 use Rattle.alc.specs.Settle.{label}
-use Rattle.alc.specs.Seeds.{Ask, asks, bound, expansions, fine, include, includeAll, reach, seeds, seedSurvives, served, successors}
+use Rattle.alc.specs.Seeds.{Ask, asks, bound, expansions, fine, include, includeAll, reach, seeds, seedSurvives, served, successors, universe}
 use Rattle.alc.specs.Model.{orBlank, chosen, modelSeeds, labelAt}
 use Rattle.alc.specs.Theorems.Lists.{cases, each-elim, here, same?, there}
 use Rattle.alc.specs.Theorems.Moves.{label-of}
 use Rattle.alc.specs.Theorems.Reach.{include-step, includeAll-append}
 use Rattle.alc.specs.Theorems.Counting.{pigeon}
-use Rattle.alc.specs.Theorems.Bound.{length-universe, universe}
+use Rattle.alc.specs.Theorems.Bound.{length-universe}
 use Rattle.alc.specs.Theorems.Sheet.{WellFormed}
 use Rattle.alc.specs.Theorems.Decides.{chosen-next}
 use Rattle.tableau.specs.Records.{wordOf, labelOf, recorded, foundAt}
@@ -34,7 +34,7 @@ use Rattle.tableau.specs.Walks.{standing, pickedOf}
 use Rattle.engine.specs.Ledger.{Known, Lent}
 use Rattle.edges.specs.Keys.{SeedsIn}
 use Rattle.order.specs.Sound.{Sound, exchanged, Shuffled}
-use Rattle.tableau.specs.declared.joint.Joint.{Joint}
+use Rattle.tableau.specs.declared.joint.Labels.{Labels}
 use Rattle.tableau.specs.declared.walks.Picked.{Picked}
 use Rattle.tableau.specs.declared.walks.Picked.the-variants.{Nothing as none, Found as picked}
 use Rattle.plan.proofs.Members.{members, members-none}
@@ -393,7 +393,7 @@ module _ (s : Sheet) (used : ℕ) (recs marks : List ℕ) (sound : Sound s used 
         rw (fuel, lt-ltb i (length (recorded front recs)) (omega (arith, size)), reach, recorded-at front recs i h, add-one i)
 
 -- ---- the label of an element
-module _ (j : Joint) (fit : length (jointOf j) ≡ j .count) (B : List Label) (ch : Label → Label) (x : ℕ) where
+module _ (j : Labels) (fit : length (jointOf j) ≡ j .count) (B : List Label) (ch : Label → Label) (x : ℕ) where
   pub label-individual : x < j .count → getD (j .labels) x blank ≡ labelAt (jointOf j) B ch x
   unfolding labelAt
   label-individual h = rw (lt-ltb x (length (jointOf j)) (omega arith)) (joint-at j x h)

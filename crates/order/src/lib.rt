@@ -3,7 +3,7 @@
 use alc::Label;
 use seeds::Asked;
 use seeds::asked_at;
-use tableau::joint::Joint;
+use tableau::joint::Labels;
 use tableau::records::find;
 use tableau::records::label_of;
 use tableau::records::word_of;
@@ -86,7 +86,7 @@ fn bring_seeds(
 // The seeds of a joint label, elements ascending.
 fn bring_joint(
     plan: &[u32; plan::SIZE],
-    j: Joint,
+    j: Labels,
     records: &mut [u64],
     marks: &mut [u8],
     used: usize,
@@ -130,7 +130,7 @@ pub fn chosen(
 // The model's seeds to the front; says how many there are.
 pub fn order(
     plan: &[u32; plan::SIZE],
-    j: Joint,
+    j: Labels,
     records: &mut [u64],
     marks: &mut [u8],
     used: usize,
@@ -153,7 +153,7 @@ pub fn order(
 // The label of element x: of an individual, or the chosen expansion of a seed.
 pub fn label_at(
     plan: &[u32; plan::SIZE],
-    j: Joint,
+    j: Labels,
     records: &[u64],
     marks: &[u8],
     used: usize,

@@ -11,7 +11,7 @@ use lib.ListN.{length, getD, set, length-map, length-set, List·getD-map, List·
 use lib.Seq.{getD-set-same, getD-set-other}
 use borrow.Author.Tests.{ltb-true, lt-ltb, ne-eqb}
 use Rattle.alc.specs.Bits.{bit, put}
-use Rattle.alc.specs.Lists.{from, upTo}
+use Rattle.alc.specs.Lists.{upTo}
 use Rattle.alc.specs.Sheet.{Line, top, bottom, name, not, and, or, some, only, Sheet, count, line, operandsBelow, wellFormed, inLimits}
 use Rattle.alc.specs.Label.{sameName, isName}
 use Rattle.alc.specs.Seeds.{isQuantified}

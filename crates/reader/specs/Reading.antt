@@ -5,7 +5,8 @@ use Prim.Native.Nat.{ℕ, zero, suc, _≤_}
 use native.Mathlib.Omega.{arith}
 use lib.ListN.{length}
 use lib.Dec.{ltb}
-use Rattle.alc.specs.Sheet.{name, not, and, or, some, only, RoleAssertion, Sheet, count, mostLines, nameCount, roleCount, mostRules, mostIndividuals, mostClasses, mostRoles}
+use Rattle.alc.specs.Sheet.{name, not, and, or, some, only, RoleAssertion, Sheet, count, mostLines, nameCount, roleCount, mostRules, mostIndividuals}
+use Rattle.alc.specs.Sheet.{mostClasses, mostRoles}
 use Rattle.alc.specs.Bytes.{Read, refused, taken, then, belowAt, operandsAt, lineAt, ruleAt, classAt, roleAt, severalAt, countedAt, sectionsAt, readSheet}
 use Rattle.numbers.specs.Reading.{Gives, none, gives, gives-if, gives-then, gives-more, Inside, below-gives}
 use Rattle.reader.specs.Parts.{reading}

@@ -14,7 +14,8 @@ use Rattle.sheet.specs.declared.Sheet.{Sheet}
 use Rattle.sheet.specs.declared.Outcome.{Outcome}
 use Rattle.sheet.specs.declared.Outcome.the-variants.{Accepted, Refused}
 use Rattle.sheet.specs.declared.Readout.{Readout}
-use Rattle.sheet.specs.Form.{outcomeRead, reasonNumber, Triple, triple, padded, sectionForm, triples, lineOf, lineTriple, ruleOf, ruleTriple, classOf, classTriple, roleOf, roleTriple, sheetOf, formOf, emptySheet}
+use Rattle.sheet.specs.Form.{outcomeRead, reasonNumber, Triple, triple, padded, sectionForm, triples, lineOf, lineTriple, ruleOf, ruleTriple, classOf}
+use Rattle.sheet.specs.Form.{classTriple, roleOf, roleTriple, sheetOf, formOf, emptySheet}
 use Rattle.numbers.specs.Reading.{given}
 use Rattle.reader.specs.Promise.{ReadPromise}
 use Rattle.reader.specs.Reading.{Counts, sheet-gives}
@@ -50,7 +51,8 @@ module _ (ts : List Triple) where
   unfolding triples sectionForm
   triples-form =
       ap (λ (f : ℕ → Triple). map f (upTo (length ts)))
-      (fun-ext λ i. λ j. triple (entry (λ (t : Triple). t .first) refl i j) (entry (λ (t : Triple). t .second) refl i j) (entry (λ (t : Triple). t .third) refl i j))
+      (fun-ext λ i. λ j. triple (entry (λ (t : Triple). t .first) refl i j) (entry (λ (t : Triple). t .second) refl i j)
+      (entry (λ (t : Triple). t .third) refl i j))
       ∙ by-places ts (triple 0 0 0)
 
 -- as many entries as the section counts

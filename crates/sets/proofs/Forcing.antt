@@ -14,7 +14,7 @@ use Rattle.alc.specs.Settle as theory
 use Rattle.alc.specs.Settle.{markAt}
 use Rattle.alc.specs.Judge.{Entry, enter, firstFine, recordsNeeded, start}
 use Rattle.alc.specs.Causes.{denial, forces, isNothing}
-use Rattle.tableau.specs.declared.joint.Joint.{Joint}
+use Rattle.tableau.specs.declared.joint.Labels.{Labels}
 use Rattle.tableau.specs.Joints.{jointOf, Fit}
 use Rattle.tableau.proofs.Jointly.{with-fits, with-is}
 use Rattle.engine.specs.declared.judge.Judged.{Judged}
@@ -37,7 +37,7 @@ start-entered s xs =
     enter-last (map (λ (c : ClassAssertion). record { individual = c .individual; mark = holds (c .class) }) (s .classes)) xs (replicate (max 1 (s .individuals)) blank)
 
 -- the class fails at the port, as the code adds it to the class assertions
-pub denied-begins : (s : Sheet) (port class : ℕ) → port < s .individuals → (j r : Joint) → (jointOf j ≡ start s []) × Fit s j
+pub denied-begins : (s : Sheet) (port class : ℕ) → port < s .individuals → (j r : Labels) → (jointOf j ≡ start s []) × Fit s j
     → (l : Label) → l ≡ add (getD (j .labels) port blank) (fails class) → (jointOf r ≡ set (jointOf j) port l) × (r .count ≡ j .count)
     → (jointOf r ≡ start s (denial port class)) × Fit s r
 denied-begins s port class on j r (begin, fit) l e w =

@@ -1,5 +1,5 @@
 -- What is known of the sets below a number, and what one more set adds: their flags, the list of the causes among them, and that there was room. Assumes nothing.
-use Prim.Native.Nat.{ℕ, zero, suc, _+_, _-_, _*_, _%_, _^_, _≤_, _<_}
+use Prim.Native.Nat.{ℕ, suc, _+_, _-_, _*_, _%_, _^_, _≤_, _<_}
 use mathlib.Core.Bool.{Bool, true, false, not as flip, _&&_}
 use mathlib.Core.Path.{_≡_, refl, sym, _∙_, ap, subst}
 use mathlib.Core.Logic.{⊎-elim}
@@ -15,7 +15,7 @@ use Rattle.alc.specs.Bits.{bit}
 use Rattle.alc.specs.Lists.{any, filter, upTo}
 use Rattle.alc.specs.Sheet.{Sheet}
 use Rattle.alc.specs.Judge.{recordsNeeded}
-use Rattle.alc.specs.Causes.{withRules, ruleSets, denial, forces, forcing, noSubsetForces, listed, causesAnswer}
+use Rattle.alc.specs.Causes.{withRules, ruleSets, denial, forces, forcing, noSubsetForces, listed}
 use Rattle.alc.specs.Theorems.Lists.{cases, clashing, tests-same, and-left, and-right, and-both, any-intro, any-elim, any-none, any-false, filter-append, filter-length, upTo-intro, upTo-elim, upTo-more, length-from, same?}
 use Rattle.alc.specs.Theorems.Bits.{bit-le}
 use Rattle.alc.specs.Theorems.Sheet.{WellFormed}

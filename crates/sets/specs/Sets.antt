@@ -1,13 +1,12 @@
 -- What the verdict on one set of rules is, what its flag says, and what the list becomes. Definitions only.
-use Prim.Native.Nat.{ℕ, suc, _^_, _<_}
-use mathlib.Core.Bool.{Bool, true, false, _&&_}
+use Prim.Native.Nat.{ℕ, suc, _<_}
+use mathlib.Core.Bool.{Bool, true, false}
 use mathlib.Core.Path.{_≡_}
 use mathlib.Core.List.{List, [], _++_}
 use lib.ListN.{length, getD, take, drop}
 use lib.Dec.{ltb}
 use Rattle.alc.specs.Sheet.{Sheet, count}
 use Rattle.alc.specs.Judge.{recordsNeeded}
-use Rattle.alc.specs.Model.{Answer}
 use Rattle.alc.specs.Causes.{withRules, denial, forces, forcing, noSubsetForces, listed, causesAnswer}
 use Rattle.sets.specs.declared.force.Forced.{Forced}
 use Rattle.sets.specs.declared.force.Forced.the-variants.{Full, Yes, No}
@@ -40,7 +39,11 @@ takenBy No = taken.Other
 
 -- judged exactly if none of its proper subsets forces
 unfoldable pub takenOf : Sheet → ℕ → ℕ → ℕ → ℕ → Taken
-takenOf s port class room n = elim (noSubsetForces s (forcing s port class) n) [ true ↦ takenBy (forcedBy (withRules s n) port class room) | false ↦ taken.Other ]
+takenOf s port class room n = elim (noSubsetForces s (forcing s port class) n) [
+  | true ↦ takenBy
+      (forcedBy (withRules s n) port class room)
+  | false ↦ taken.Other
+]
 
 pub record TakenTo (s : Sheet) (port class room n : ℕ) (r : Taken) (flags : List Bool) : Type 0 where
   pub is : r ≡ takenOf s port class room n
@@ -55,4 +58,5 @@ abbrev pub ListedTo : Sheet → ℕ → ℕ → ℕ → List ℕ → Listed → 
 ListedTo s port class room before listing.Full after =
     (causesAnswer s port class room ≡ record { number = 13; out = [] }) × (length after ≡ length before)
 ListedTo s port class room before (listing.Causes n) after =
-    (causesAnswer s port class room ≡ record { number = 14; out = listed s port class }) × (n ≡ length (listed s port class)) × (after ≡ laidOver (listed s port class) before)
+    (causesAnswer s port class room ≡ record { number = 14; out = listed s port class }) × (n ≡ length (listed s port class))
+    × (after ≡ laidOver (listed s port class) before)

@@ -1,6 +1,6 @@
 // A plan with some of its rules. The set is a number: rule i is worth 2^i.
 ghost use mathlib.Core.Path.{_≡_};
-ghost use Prim.Native.Nat.{_<_, _^_};
+ghost use Prim.Native.Nat.{_<_};
 ghost use Rattle.alc.specs.Causes.{withRules};
 ghost use Rattle.plan.specs.Plan.{planSheet, Prepared};
 

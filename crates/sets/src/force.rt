@@ -4,11 +4,10 @@ use alc::Mark;
 use engine::judge::Verdict;
 use engine::judge::judge;
 use engine::judge::start_joint;
-use tableau::joint::Joint;
+use tableau::joint::Labels;
 ghost use mathlib.Core.Path.{_≡_};
-ghost use Prim.Native.Nat.{_<_, _≤_};
+ghost use Prim.Native.Nat.{_≤_};
 ghost use lib.ListN.{length};
-ghost use Rattle.alc.specs.Sheet.{count};
 ghost use Rattle.alc.specs.Judge.{start};
 ghost use Rattle.alc.specs.Causes.{denial, withRules};
 ghost use Rattle.plan.specs.Plan.{planSheet, Prepared};
@@ -23,7 +22,7 @@ pub enum Forced {
 }
 
 // The class assertions, and behind them that the class fails at the port.
-fn denied(plan: &[u32; plan::SIZE], port: usize, class: usize) -> Joint
+fn denied(plan: &[u32; plan::SIZE], port: usize, class: usize) -> Labels
     requires { ⌜ Prepared (now plan) ⌝ }
     requires { ⌜ OnSheet (planSheet (now plan)) port class ⌝ }
     ensures { λ r. ⌜ (jointOf r ≡ start (planSheet (now (plan .entry))) (denial port class)) × Fit (planSheet (now (plan .entry))) r ⌝ }

@@ -10,7 +10,7 @@ use lib.ListN.{length, getD, drop, set, length-map, drop-of-length-le}
 use lib.Seq.{length-take-le, drop-cons, getD-take}
 use types.Run.{OneOf}
 use denote.Enum.Declared.{tagOf}
-use Rattle.tableau.proofs.joint.Next.{the-type}
+use Rattle.tableau.proofs.joint.JointStep.{the-type}
 use borrow.Author.Tests.{not-true}
 use Rattle.alc.specs.Lists.{Maybe, nothing, just, all, first, each, upTo}
 use Rattle.alc.specs.Sheet.{Sheet, count}
@@ -27,9 +27,9 @@ use Rattle.alc.specs.Theorems.Moves.{label-in, Listed, moves-elim, addAll-has}
 use Rattle.alc.specs.Theorems.Steps.{unsetAll, DemandBelow, below-mono}
 use Rattle.alc.specs.Theorems.Settle.{Fits, Less, meet-less, wanted-below, who-below, settle-law}
 use Rattle.steps.specs.declared.step.Choice.{Choice}
-use Rattle.tableau.specs.declared.joint.Joint.{Joint}
-use Rattle.tableau.specs.declared.joint.Next.{Next}
-use Rattle.tableau.specs.declared.joint.Next.the-variants.{Clashed, Settled, Onward, Split}
+use Rattle.tableau.specs.declared.joint.Labels.{Labels}
+use Rattle.tableau.specs.declared.joint.JointStep.{JointStep}
+use Rattle.tableau.specs.declared.joint.JointStep.the-variants.{Clashed, Settled, Onward, Split}
 use Rattle.plan.specs.Plan.{planSheet, Prepared}
 use Rattle.steps.specs.Choice.{choiceOf, choice}
 use Rattle.tableau.specs.Joints.{jointOf, Fit, ownStep, assertionAt, metBy, stepOf, nextOf, settleBy}
@@ -42,7 +42,7 @@ use Rattle.steps.proofs.Firsts.{or-found, Meets, settled, meets, paired-moves, 
 -- ---- steps
 module _ (s : Sheet) (J : theory.Joint) where
   -- the first step among the moves ms
-  abbrev pub stepIn : List Move → Next
+  abbrev pub stepIn : List Move → JointStep
   stepIn ms = stepOf s J (first (adds s J) ms)
 
   -- a step is settled only where no move adds anything
@@ -55,19 +55,19 @@ module _ (s : Sheet) (J : theory.Joint) where
       go (either x y) q = let z : _≡_ {A = ℕ} 0 1 = cc in omega arith
 
 -- where the code's match came by another arm
-pub not-settled : {r : Next} → OneOf (0 ∷ 2 ∷ 3 ∷ []) (tagOf the-type r) → r ≡ Settled → ⊥
+pub not-settled : {r : JointStep} → OneOf (0 ∷ 2 ∷ 3 ∷ []) (tagOf the-type r) → r ≡ Settled → ⊥
 not-settled {r} k e = ⊎-elim (λ x. omega arith) (⊎-elim (λ x. omega arith) (λ x. omega arith)) (rw e at k)
 
 -- ---- the labels of a joint label as the code has it
 -- an array of eight has as many labels as it counts
-pub joint-length : {A : Type 0} (f : Label → A) (j : Joint) → length (map f (j .labels)) ≡ 8 → j .count ≤ 8 → length (jointOf j) ≡ j .count
+pub joint-length : {A : Type 0} (f : Label → A) (j : Labels) → length (map f (j .labels)) ≡ 8 → j .count ≤ 8 → length (jointOf j) ≡ j .count
 joint-length f j e h = length-take-le (j .count) (j .labels) (omega (arith, length-map (j .labels) f))
 
 -- the label of individual a, as the code reads it
-label-at : (j : Joint) (a : ℕ) → a < j .count → label (jointOf j) a ≡ getD (j .labels) a blank
+label-at : (j : Labels) (a : ℕ) → a < j .count → label (jointOf j) a ≡ getD (j .labels) a blank
 label-at j a h = getD-take (j .count) (j .labels) a blank h
 
-module _ (s : Sheet) (j : Joint) (a : ℕ) (long : length (jointOf j) ≡ j .count) where
+module _ (s : Sheet) (j : Labels) (a : ℕ) (long : length (jointOf j) ≡ j .count) where
   -- a turn of the loop, where the label tested clashes or not
   pub closes-turn : a < j .count → closes s (drop a (jointOf j)) ≡ closes s (jointOf j) → (b : Bool) → b ≡ clashes s (getD (j .labels) a blank)
       → (b || closes s (drop (a + 1) (jointOf j))) ≡ closes s (jointOf j)
@@ -98,7 +98,7 @@ module _ (s : Sheet) (J : theory.Joint) (a : ℕ) where
   own-chooses = sym (meets-step (first-meets s J a (paired-moves s J a)))
 
 -- as the code makes it
-pub own-is : (s : Sheet) (j : Joint) (a : ℕ) → a < j .count → (k : Choice) → k ≡ choice s (getD (j .labels) a blank) → (n : Next) → n ≡ ownStep a k
+pub own-is : (s : Sheet) (j : Labels) (a : ℕ) → a < j .count → (k : Choice) → k ≡ choice s (getD (j .labels) a blank) → (n : JointStep) → n ≡ ownStep a k
     → n ≡ stepIn s (jointOf j) (movesOf s a)
 own-is s j a h k e n q = q ∙ ap (ownStep a) (e ∙ ap (choice s) (sym (label-at j a h))) ∙ own-chooses s (jointOf j) a
 
@@ -118,13 +118,13 @@ module _ {p : List ℕ} (h : Prepared p) where
   role-inside e b = well-formed (planSheet p) (h .well) .roles (assertionAt p e) (role-in p e b)
 
 -- where role assertion e stands and leads, of those of a plan
-pub record Inside (p : List ℕ) (j : Joint) (e : ℕ) : Type 0 where
+pub record Inside (p : List ℕ) (j : Labels) (e : ℕ) : Type 0 where
   pub row : e < 16
   pub source : assertionAt p e .source < j .count
   pub target : assertionAt p e .target < j .count
   pub small : j .count ≤ 8
 
-pub push-inside : {p : List ℕ} {j : Joint} {e : ℕ} → Prepared p → Fit (planSheet p) j → e < length (planSheet p .roles) → Inside p j e
+pub push-inside : {p : List ℕ} {j : Labels} {e : ℕ} → Prepared p → Fit (planSheet p) j → e < length (planSheet p .roles) → Inside p j e
 push-inside {p} {j} {e} h fit b =
     let g = role-inside h e (omega (arith, role-count p)) in
     record { row = omega (arith, role-count p, roles-fit h); source = omega (arith, fit .each-one); target = omega (arith, fit .each-one); small = fit .small }
@@ -144,7 +144,7 @@ addAll-same l (m ∷ ms) e =
     ap (λ (k : Label). addAll k ms) (add-same l m (and-left (has l m) (all (has l) ms) e)) ∙ addAll-same l ms (and-right (has l m) (all (has l) ms) e)
 
 -- as the code does it: nothing where joining changes nothing
-module _ {p : List ℕ} {j : Joint} {e : ℕ} (g : Inside p j e) where
+module _ {p : List ℕ} {j : Labels} {e : ℕ} (g : Inside p j e) where
   abbrev pub ahead : Label
   ahead = getD (j .labels) (assertionAt p e .target) blank
 
@@ -153,7 +153,7 @@ module _ {p : List ℕ} {j : Joint} {e : ℕ} (g : Inside p j e) where
 
   module _ {marks more : Label} (m : marks ≡ addAll blank pushes) (q : more ≡ join ahead marks) where
     pushed-by : (b : Bool) → all (has ahead) pushes ≡ b
-        → elim b as (λ _. Next) [ true ↦ Settled | false ↦ Onward (assertionAt p e .target) marks ] ≡ stepIn (planSheet p) (jointOf j) (push (assertionAt p e) ∷ [])
+        → elim b as (λ _. JointStep) [ true ↦ Settled | false ↦ Onward (assertionAt p e .target) marks ] ≡ stepIn (planSheet p) (jointOf j) (push (assertionAt p e) ∷ [])
     pushed-by true t = rw (label-at j (assertionAt p e .target) (g .target), label-at j (assertionAt p e .source) (g .source), t, first)
     pushed-by false t =
         rw (label-at j (assertionAt p e .target) (g .target), label-at j (assertionAt p e .source) (g .source), t, first, m)
@@ -174,7 +174,7 @@ module _ {p : List ℕ} {j : Joint} {e : ℕ} (g : Inside p j e) where
 abbrev pub Fresh : ℕ → theory.Joint → ℕ → Mark → Type 0
 Fresh n J a m = (lineOf m < n) × (unsetAll n (set J a (add (label J a) m)) < unsetAll n J)
 
-abbrev pub FreshBy : ℕ → ℕ → theory.Joint → Next → Type 0
+abbrev pub FreshBy : ℕ → ℕ → theory.Joint → JointStep → Type 0
 FreshBy n size J Clashed = Unit {0}
 FreshBy n size J Settled = Unit {0}
 FreshBy n size J (Onward a marks) = (a < size) × (unsetAll n (set J a (join (label J a) marks)) < unsetAll n J)
@@ -259,8 +259,8 @@ module _ (s : Sheet) (J : theory.Joint) where
         ]
 
 -- ---- over a plan, by the step k that the code has made
-module _ {p : List ℕ} (ready : Prepared p) (j : Joint) (fit : Fit (planSheet p) j) (long : length (jointOf j) ≡ j .count)
-    (k : Next) (made : k ≡ nextOf (planSheet p) (jointOf j)) where
+module _ {p : List ℕ} (ready : Prepared p) (j : Labels) (fit : Fit (planSheet p) j) (long : length (jointOf j) ≡ j .count)
+    (k : JointStep) (made : k ≡ nextOf (planSheet p) (jointOf j)) where
   -- the role assertions' targets have labels
   labelled : Fits (planSheet p .roles) (length (jointOf j))
   labelled e i = omega (arith, well-formed (planSheet p) (ready .well) .roles e i .1, fit .each-one)
@@ -274,7 +274,7 @@ module _ {p : List ℕ} (ready : Prepared p) (j : Joint) (fit : Fit (planSheet p
   stepped-settles = joint-settles (planSheet p) (jointOf j) (well-formed (planSheet p) (ready .well)) labelled ∙ ap (settleBy (planSheet p) (jointOf j)) (sym made)
 
 -- r is j with f of its label at a, as the code makes it
-module _ (j r : Joint) (a : ℕ) (f : Label → Label) (l : Label) (inside : a < j .count)
+module _ (j r : Labels) (a : ℕ) (f : Label → Label) (l : Label) (inside : a < j .count)
     (e : l ≡ f (getD (j .labels) a blank)) (w : (jointOf r ≡ set (jointOf j) a l) × (r .count ≡ j .count)) where
   pub with-is : jointOf r ≡ set (jointOf j) a (f (label (jointOf j) a))
   with-is = w .0 ∙ ap (set (jointOf j) a) (e ∙ ap f (sym (label-at j a inside)))

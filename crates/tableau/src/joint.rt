@@ -11,26 +11,25 @@ ghost use mathlib.Core.List.{[], _∷_, map};
 ghost use Prim.Native.Nat.{_<_, _≤_};
 ghost use lib.ListN.{length, set};
 ghost use Rattle.alc.specs.Lists.{first, each, upTo};
-ghost use Rattle.alc.specs.Sheet.{Sheet};
 ghost use Rattle.alc.specs.Settle.{movesOf, push, adds, closes};
 ghost use Rattle.plan.specs.Plan.{planSheet, Prepared};
 ghost use Rattle.tableau.specs.Joints.{jointOf, Fit, ownStep, assertionAt, stepOf, nextOf};
 
 // The labels of up to eight individuals.
-pub struct Joint {
+pub struct Labels {
     pub labels: [Label; 8],
     pub count: usize,
 }
 
 // A clash; nothing more; marks for an individual; or one of two marks for an individual, the first branch first.
-pub enum Next {
+pub enum JointStep {
     Clashed,
     Settled,
     Onward(usize, Label),
     Split(usize, Mark, Mark),
 }
 
-impl Joint {
+impl Labels {
     // With another label at a.
     pub fn with(self, a: usize, l: Label) -> Self
         requires { ⌜ (a < self .count) × (self .count ≤ 8) ⌝ }
@@ -43,7 +42,7 @@ impl Joint {
 }
 
 // Some label clashes.
-fn joint_clashes(plan: &[u32; plan::SIZE], j: Joint) -> bool
+fn joint_clashes(plan: &[u32; plan::SIZE], j: Labels) -> bool
     requires { ⌜ Prepared (now plan) ⌝ }
     requires { ⌜ j .count ≤ 8 ⌝ }
     ensures { λ r. ⌜ r ≡ closes (planSheet (now (plan .entry))) (jointOf j) ⌝ }
@@ -62,18 +61,18 @@ fn joint_clashes(plan: &[u32; plan::SIZE], j: Joint) -> bool
 }
 
 // What an individual chooses, as a step of the joint label.
-fn own_step(a: usize, choice: Choice) -> Next
+fn own_step(a: usize, choice: Choice) -> JointStep
     ensures { λ r. ⌜ r ≡ ownStep a choice ⌝ }
 {
     match choice {
-        Choice::Nothing => Next::Settled,
-        Choice::Every(marks) => Next::Onward(a, marks),
-        Choice::Either(m, n) => Next::Split(a, m, n),
+        Choice::Nothing => JointStep::Settled,
+        Choice::Every(marks) => JointStep::Onward(a, marks),
+        Choice::Either(m, n) => JointStep::Split(a, m, n),
     }
 }
 
 // The lowest individual with a step of its own.
-fn lowest_step(plan: &[u32; plan::SIZE], j: Joint) -> Next
+fn lowest_step(plan: &[u32; plan::SIZE], j: Labels) -> JointStep
     requires { ⌜ Prepared (now plan) ⌝ }
     requires { ⌜ j .count ≤ 8 ⌝ }
     requires { ⌜ closes (planSheet (now plan)) (jointOf j) ≡ false ⌝ }
@@ -85,18 +84,18 @@ fn lowest_step(plan: &[u32; plan::SIZE], j: Joint) -> Next
         let l = j.labels[a];
         let next = own_step(a, next_choice(plan, l));
         match next {
-            Next::Settled => {}
+            JointStep::Settled => {}
             _ => {
                 return next;
             }
         }
         a += 1;
     }
-    Next::Settled
+    JointStep::Settled
 }
 
 // What the role assertion e still pushes.
-fn push_at(plan: &[u32; plan::SIZE], j: Joint, e: usize) -> Next
+fn push_at(plan: &[u32; plan::SIZE], j: Labels, e: usize) -> JointStep
     requires { ⌜ Prepared (now plan) ⌝ }
     requires { ⌜ Fit (planSheet (now plan)) j ⌝ }
     requires { ⌜ e < length (planSheet (now plan) .roles) ⌝ }
@@ -110,14 +109,14 @@ fn push_at(plan: &[u32; plan::SIZE], j: Joint, e: usize) -> Next
     let more = l.join(marks);
     if more.holding == l.holding {
         if more.failing == l.failing {
-            return Next::Settled;
+            return JointStep::Settled;
         }
     }
-    Next::Onward(target, marks)
+    JointStep::Onward(target, marks)
 }
 
 // The first role assertion that still adds a mark.
-fn push_step(plan: &[u32; plan::SIZE], j: Joint) -> Next
+fn push_step(plan: &[u32; plan::SIZE], j: Labels) -> JointStep
     requires { ⌜ Prepared (now plan) ⌝ }
     requires { ⌜ Fit (planSheet (now plan)) j ⌝ }
     ensures { λ r. ⌜ r ≡ stepOf (planSheet (now (plan .entry))) (jointOf j) (first (adds (planSheet (now (plan .entry))) (jointOf j)) (map push (planSheet (now (plan .entry)) .roles))) ⌝ }
@@ -127,28 +126,28 @@ fn push_step(plan: &[u32; plan::SIZE], j: Joint) -> Next
     while e < roles {
         let next = push_at(plan, j, e);
         match next {
-            Next::Settled => {}
+            JointStep::Settled => {}
             _ => {
                 return next;
             }
         }
         e += 1;
     }
-    Next::Settled
+    JointStep::Settled
 }
 
 // One step of the joint label.
-pub fn next_step(plan: &[u32; plan::SIZE], j: Joint) -> Next
+pub fn next_step(plan: &[u32; plan::SIZE], j: Labels) -> JointStep
     requires { ⌜ Prepared (now plan) ⌝ }
     requires { ⌜ Fit (planSheet (now plan)) j ⌝ }
     ensures { λ r. ⌜ r ≡ nextOf (planSheet (now (plan .entry))) (jointOf j) ⌝ }
 {
     if joint_clashes(plan, j) {
-        return Next::Clashed;
+        return JointStep::Clashed;
     }
     let next = lowest_step(plan, j);
     match next {
-        Next::Settled => push_step(plan, j),
+        JointStep::Settled => push_step(plan, j),
         _ => next,
     }
 }

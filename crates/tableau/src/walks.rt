@@ -14,8 +14,6 @@ ghost use mathlib.Core.Bool.{true, false};
 ghost use Prim.Native.Nat.{_<_, _≤_, _%_, _^_};
 ghost use lib.ListN.{length};
 ghost use Rattle.alc.specs.Lists.{all, first, Distinct};
-ghost use Rattle.alc.specs.Sheet.{count};
-ghost use Rattle.alc.specs.Label.{clashes};
 ghost use Rattle.alc.specs.Seeds.{seeds, expansions, successors, includeAll, among, served};
 ghost use Rattle.plan.specs.Plan.{planSheet, Prepared};
 ghost use Rattle.tableau.specs.Records.{recorded, GrownTo};

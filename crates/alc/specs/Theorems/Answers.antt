@@ -14,9 +14,10 @@ use Rattle.alc.specs.Meaning.{SheetSatisfiable}
 use Rattle.alc.specs.Settle.{Joint}
 use Rattle.alc.specs.Seeds.{bound, quantified}
 use Rattle.alc.specs.Judge.{recordsNeeded, Entry, firstFine}
-use Rattle.alc.specs.Model.{satisfyAnswer, Answer, told, modelWords}
+use Rattle.alc.specs.Model.{satisfyAnswer, Finding, told, modelWords}
 use Rattle.alc.specs.Causes.{denial, causesAnswer, forcing, noSubsetForces, ruleSets, NoSubsetForces, listed, withRules}
-use Rattle.alc.specs.Theorems.Lists.{and-both, cases, any-intro, upTo-intro, filter-elim, and-left, and-right, from-elim, any-elim, filter-step, upTo-elim}
+use Rattle.alc.specs.Theorems.Lists.{and-both, cases, any-intro, upTo-intro, filter-elim, and-left, and-right, from-elim, any-elim, filter-step}
+use Rattle.alc.specs.Theorems.Lists.{upTo-elim}
 use Rattle.alc.specs.Theorems.Sorted.{Sorted, sorted-unique}
 use Rattle.alc.specs.Theorems.Sheet.{WellFormed}
 use Rattle.alc.specs.Theorems.Decides.{satisfiable-found}
@@ -42,13 +43,14 @@ module _ (s : Sheet) (room : ℕ) where
 
   -- out of space exactly when the records needed outnumber those lent
   pub thirteen-is : (satisfyAnswer s room .number ≡ 13) ↔ (room < length (recordsNeeded s []))
-  thirteen-is = (there-, λ h. ap (λ (r : Answer). r .number) (reply-short h))
+  thirteen-is = (there-, λ h. ap (λ (r : Finding). r .number) (reply-short h))
     where
       there- : satisfyAnswer s room .number ≡ 13 → room < length (recordsNeeded s [])
       there- e =
           ⊎-elim
           (λ (t : ltb room (length (recordsNeeded s [])) ≡ true). ltb-true room _ t)
-          (λ (t : ltb room (length (recordsNeeded s [])) ≡ false). absurd (told-not-13 (firstFine s []) (sym (ap (λ (r : Answer). r .number) (reply-told (ltb-false room _ t))) ∙ e)))
+          (λ (t : ltb room (length (recordsNeeded s [])) ≡ false). absurd
+          (told-not-13 (firstFine s []) (sym (ap (λ (r : Finding). r .number) (reply-told (ltb-false room _ t))) ∙ e)))
           (cases (ltb room (length (recordsNeeded s []))))
 
   -- and never when e·2^(e-1) are lent
@@ -63,10 +65,11 @@ module _ (s : Sheet) (room : ℕ) where
   ten-found e =
       ⊎-elim
       (λ t. absurd (let a : _≡_ {A = ℕ} 13 10 = sym t ∙ e in omega arith))
-      (λ t. rw (reply-told t) (go (firstFine s []) refl (sym (ap (λ (r : Answer). r .number) (reply-told t)) ∙ e)))
+      (λ t. rw (reply-told t) (go (firstFine s []) refl (sym (ap (λ (r : Finding). r .number) (reply-told t)) ∙ e)))
       enough
     where
-      go : (o : Maybe Joint) → firstFine s [] ≡ o → told s o .number ≡ 10 → (K : Joint) × (firstFine s [] ≡ just K) × (told s (firstFine s []) .out ≡ modelWords s K)
+      go : (o : Maybe Joint) → firstFine s [] ≡ o → told s o .number ≡ 10 → (K : Joint) × (firstFine s [] ≡ just K)
+          × (told s (firstFine s []) .out ≡ modelWords s K)
       go nothing q e = absurd (omega arith)
       go (just K) q e = (K, q, ap (λ (o : Maybe Joint). told s o .out) q)
 
@@ -82,7 +85,7 @@ module _ (s : Sheet) (room : ℕ) where
     twelve-only e =
         ⊎-elim
         (λ t. absurd (let a : _≡_ {A = ℕ} 13 12 = sym t ∙ e in omega arith))
-        (λ t. go12 (firstFine s []) refl (sym (ap (λ (r : Answer). r .number) (reply-told t)) ∙ e))
+        (λ t. go12 (firstFine s []) refl (sym (ap (λ (r : Finding). r .number) (reply-told t)) ∙ e))
         enough
 
   -- there is no other number
@@ -101,13 +104,18 @@ filter-ascending : (p : ℕ → Bool) (a k : ℕ) → Ascending (filter p (from 
 filter-ascending p a zero = tt
 filter-ascending p a (suc k) =
     ⊎-elim
-    (λ t. rw (t .1) ((λ y h. let (i, _) = filter-elim p (from (suc a) k) h in let (l, _) = from-elim (suc a) k y i in omega arith), filter-ascending p (suc a) k))
+    (λ t. rw (t .1) (
+      (λ y h. let (i, _) = filter-elim p (from (suc a) k) h in let (l, _) = from-elim (suc a) k y i in omega arith),
+      filter-ascending p
+          (suc a) k,
+    ))
     (λ t. rw (t .1) (filter-ascending p (suc a) k))
     (filter-step p a (from (suc a) k))
 
 pub listed-ascending : (s : Sheet) (port class : ℕ) → Ascending (listed s port class)
 unfolding listed
-listed-ascending s port class = filter-ascending (λ n. noSubsetForces s (forcing s port class) n && getD (forcing s port class) n false) 0 (2 ^ length (s .rules))
+listed-ascending s port class = filter-ascending (λ n. noSubsetForces s (forcing s port class) n && getD (forcing s port class) n false) 0
+    (2 ^ length (s .rules))
 
 ascending-sorted : (xs : List ℕ) → Ascending xs → Sorted _<_ xs
 ascending-sorted [] p = tt
@@ -131,23 +139,24 @@ module _ (s : Sheet) (port class room : ℕ) where
 
   short-iff : (causesAnswer s port class room .number ≡ 13) ↔ (any short (ruleSets s) ≡ true)
   short-iff = (
-    λ e. ⊎-elim (λ t. t) (λ t. absurd (let a : _≡_ {A = ℕ} 14 13 = sym (ap (λ (r : Answer). r .number) (causes-listed t)) ∙ e in omega arith)) (cases (any short (ruleSets s))),
-    λ t. ap (λ (r : Answer). r .number) (causes-short t),
+    λ e. ⊎-elim (λ t. t) (λ t. absurd (let a : _≡_ {A = ℕ} 14 13 = sym (ap (λ (r : Finding). r .number) (causes-listed t)) ∙ e in omega arith))
+        (cases (any short (ruleSets s))),
+    λ t. ap (λ (r : Finding). r .number) (causes-short t),
   )
 
   pub causes-fourteen : causesAnswer s port class room .number ≡ 14 → causesAnswer s port class room .out ≡ listed s port class
   causes-fourteen e =
       ⊎-elim
-      (λ (t : any short (ruleSets s) ≡ true). absurd (let a : _≡_ {A = ℕ} 13 14 = sym (ap (λ (r : Answer). r .number) (causes-short t)) ∙ e in omega arith))
-      (λ (t : any short (ruleSets s) ≡ false). ap (λ (r : Answer). r .out) (causes-listed t))
+      (λ (t : any short (ruleSets s) ≡ true). absurd (let a : _≡_ {A = ℕ} 13 14 = sym (ap (λ (r : Finding). r .number) (causes-short t)) ∙ e in omega arith))
+      (λ (t : any short (ruleSets s) ≡ false). ap (λ (r : Finding). r .out) (causes-listed t))
       (cases (any short (ruleSets s)))
 
   -- there is no other number
   pub two-only : (causesAnswer s port class room .number ≡ 13) ⊎ (causesAnswer s port class room .number ≡ 14)
   two-only =
       ⊎-elim
-      (λ (t : any short (ruleSets s) ≡ true). inl (ap (λ (r : Answer). r .number) (causes-short t)))
-      (λ (t : any short (ruleSets s) ≡ false). inr (ap (λ (r : Answer). r .number) (causes-listed t)))
+      (λ (t : any short (ruleSets s) ≡ true). inl (ap (λ (r : Finding). r .number) (causes-short t)))
+      (λ (t : any short (ruleSets s) ≡ false). inr (ap (λ (r : Finding). r .number) (causes-listed t)))
       (cases (any short (ruleSets s)))
 
   module _ (wf : WellFormed s) (p< : port < s .individuals) (c< : class < count s) where
@@ -157,17 +166,25 @@ module _ (s : Sheet) (port class room : ℕ) where
     unfolding NoSubsetForces
     causes-thirteen = (there-, back)
       where
-        there- : causesAnswer s port class room .number ≡ 13 → (n : ℕ) × (n < 2 ^ length (s .rules)) × NoSubsetForces s port class n × (room < length (recordsNeeded (withRules s n) (denial port class)))
+        there- : causesAnswer s port class room .number ≡ 13 → (n : ℕ) × (n < 2 ^ length (s .rules)) × NoSubsetForces s port class n
+            × (room < length (recordsNeeded (withRules s n) (denial port class)))
         there- e =
             let (n, i, t) = any-elim short (ruleSets s) (short-iff .0 e) in
             let sm = and-left (noSubsetForces s (forcing s port class) n) (ltb room (length (recordsNeeded (withRules s n) (denial port class)))) t in
-            let lt = and-right (noSubsetForces s (forcing s port class) n) (ltb room (length (recordsNeeded (withRules s n) (denial port class)))) t in
-            (n, upTo-elim (2 ^ length (s .rules)) n i, (λ m m< w ne f. no-subset-elim s wf port class p< c< n sm m m< w ne (forces-at s wf port class p< c< m .1 f)), ltb-true room _ lt)
+            let lt = and-right (noSubsetForces s (forcing s port class) n) (ltb room (length (recordsNeeded (withRules s n) (denial port class)))) t in (
+              n,
+              upTo-elim (2 ^ length (s .rules)) n i,
+              (λ m m< w ne f. no-subset-elim s wf port class p< c< n sm m m< w ne
+                  (forces-at s wf port class p< c< m .1 f)),
+              ltb-true room _ lt,
+            )
 
-        back : ((n : ℕ) × (n < 2 ^ length (s .rules)) × NoSubsetForces s port class n × (room < length (recordsNeeded (withRules s n) (denial port class)))) → causesAnswer s port class room .number ≡ 13
+        back : ((n : ℕ) × (n < 2 ^ length (s .rules)) × NoSubsetForces s port class n × (room < length (recordsNeeded (withRules s n) (denial port class))))
+            → causesAnswer s port class room .number ≡ 13
         back (n, n<, least, lt) =
             short-iff .1 (any-intro short (ruleSets s) (upTo-intro (2 ^ length (s .rules)) n n<)
-            (and-both (noSubsetForces s (forcing s port class) n) _ (no-subset-intro s wf port class p< c< n (λ m m< w ne f. least m m< w ne (forces-at s wf port class p< c< m .0 f))) (lt-ltb room _ lt)))
+            (and-both (noSubsetForces s (forcing s port class) n) _
+            (no-subset-intro s wf port class p< c< n (λ m m< w ne f. least m m< w ne (forces-at s wf port class p< c< m .0 f))) (lt-ltb room _ lt)))
 
 -- the lines are the same, so e is
 bound-same : (s : Sheet) (n : ℕ) → bound (withRules s n) ≡ bound s
@@ -175,7 +192,8 @@ unfolding bound quantified
 bound-same s n = refl
 
 -- never 13 when e·2^(e-1) are lent, for causes too
-pub causes-never : (s : Sheet) → WellFormed s → (port class room : ℕ) → port < s .individuals → class < count s → bound s ≤ room → causesAnswer s port class room .number ≡ 13 → ⊥
+pub causes-never : (s : Sheet) → WellFormed s → (port class room : ℕ) → port < s .individuals → class < count s → bound s ≤ room
+    → causesAnswer s port class room .number ≡ 13 → ⊥
 causes-never s wf port class room p< c< h e =
     let (n, n<, _, lt) = causes-thirteen s port class room wf p< c< .0 e in
     omega (arith, records-bound (withRules s n) (denial port class), bound-same s n)

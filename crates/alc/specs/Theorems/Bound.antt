@@ -7,35 +7,15 @@ use mathlib.Core.List.{List, [], _∷_, map, Memᴰ·cast, Memᴰ·map}
 use lib.ListN.{length, length-map}
 use lib.Dec.{eqb}
 use native.Mathlib.Omega.{arith}
-use Rattle.alc.specs.Lists.{_∈_, upTo, filter, each}
+use Rattle.alc.specs.Lists.{_∈_, upTo, filter, each, sublists, removeOne}
 use Rattle.alc.specs.Sheet.{some, count, Line, top, or, bottom, not, only, name, and, line, Sheet}
 use Rattle.alc.specs.Label.{addAll, handed, blank, Label, holds, clashes, Mark, pushed, has, fails}
-use Rattle.alc.specs.Seeds.{bound, quantifiers, asks, seedOf, quantified, Ask, isQuantified}
+use Rattle.alc.specs.Seeds.{askedMark, handedMark, seedFrom, universeOf, universe, bound, quantifiers, asks, seedOf, quantified, Ask, isQuantified}
 use Rattle.alc.specs.Theorems.Lists.{filter-intro, cases, each-intro, upTo-intro, and-false-right}
-use Rattle.alc.specs.Theorems.Counting.{each-cond, length-removeOne, sublists, removeOne, filter-sublist, length-each, length-sublists, filter-removeOne, filter-filter}
+use Rattle.alc.specs.Theorems.Counting.{each-cond, length-removeOne, filter-sublist, length-each, length-sublists, filter-removeOne}
+use Rattle.alc.specs.Theorems.Counting.{filter-filter}
 use Rattle.alc.specs.Theorems.Seeds.{Asking, by-some, by-only, asks-elim}
 use Rattle.alc.specs.Theorems.Models.{no-both}
-
--- what a some or only line asks for, and what it hands on
-abbrev askedMark : Line → Mark
-askedMark top = holds 0
-askedMark bottom = holds 0
-askedMark (name a) = holds 0
-askedMark (not i) = holds 0
-askedMark (and i j) = holds 0
-askedMark (or i j) = holds 0
-askedMark (some r i) = holds i
-askedMark (only r i) = fails i
-
-abbrev handedMark : Line → Mark
-handedMark top = holds 0
-handedMark bottom = holds 0
-handedMark (name a) = holds 0
-handedMark (not i) = holds 0
-handedMark (and i j) = holds 0
-handedMark (or i j) = holds 0
-handedMark (some r i) = fails i
-handedMark (only r i) = holds i
 
 abbrev contributes : ℕ → Bool → Bool → Line → Bool
 contributes r h f top = false
@@ -66,16 +46,6 @@ contributes-quantified r h f (and i j) e = e
 contributes-quantified r h f (or i j) e = e
 contributes-quantified r h f (some q i) e = refl
 contributes-quantified r h f (only q i) e = refl
-
--- the seed that line i asks for where the lines of S contribute
-seedFrom : Sheet → ℕ → List ℕ → Label
-seedFrom s i S = addAll blank (askedMark (line s i) ∷ map (λ j. handedMark (line s j)) S)
-
-universeOf : Sheet → ℕ → List Label
-universeOf s i = map (seedFrom s i) (sublists (removeOne i (quantified s)))
-
-pub universe : Sheet → List Label
-universe s = each (universeOf s) (quantified s)
 
 pub length-universe : (s : Sheet) → length (universe s) ≡ bound s
 unfolding universe universeOf bound

@@ -11,8 +11,11 @@ use borrow.Author.Tests.{ltb-true, ltb-false, lt-ltb, le-ltb, eqb-false}
 use native.Mathlib.Decide.{decLt}
 use native.Mathlib.Omega.{arith}
 use Rattle.alc.specs.Lists.{each, all, from}
-use Rattle.alc.specs.Sheet.{Line, top, bottom, name, not, and, or, some, only, Rule, ClassAssertion, RoleAssertion, Sheet, nameCount, roleCount, count, mostLines, mostRules, mostIndividuals, mostClasses, mostRoles, operandsBelow, lineInLimits, linesWell, rulesWell, classesWell, rolesWell, wellFormed, inLimits}
-use Rattle.alc.specs.Bytes.{Read, refused, taken, then, numberAt, belowAt, operandsAt, lineAt, ruleAt, classAt, roleAt, severalAt, countedAt, sectionsAt, readSheet, lineBytes, ruleBytes, classBytes, roleBytes, bytesOf}
+use Rattle.alc.specs.Sheet.{Line, top, bottom, name, not, and, or, some, only, Rule, ClassAssertion, RoleAssertion, Sheet, nameCount, roleCount, count}
+use Rattle.alc.specs.Sheet.{mostLines, mostRules, mostIndividuals, mostClasses, mostRoles, operandsBelow, lineInLimits, linesWell, rulesWell}
+use Rattle.alc.specs.Sheet.{classesWell, rolesWell, wellFormed, inLimits}
+use Rattle.alc.specs.Bytes.{Read, refused, taken, then, numberAt, belowAt, operandsAt, lineAt, ruleAt, classAt, roleAt, severalAt, countedAt, sectionsAt}
+use Rattle.alc.specs.Bytes.{readSheet, lineBytes, ruleBytes, classBytes, roleBytes, bytesOf}
 use Rattle.alc.specs.Theorems.Lists.{cases, or-false-left, and-left, and-right, and-both, one-true}
 
 -- from place p to place q the bytes are xs
@@ -31,7 +34,8 @@ module _ (bs : List ℕ) where
   one-spelled p v q w =
       let h : p < length bs = omega arith in
       let e : suc p ≡ q = omega arith in
-      let there : getD (take q bs) p 0 ≡ v = ap (λ (l : List ℕ). getD l p 0) (sym (w .spelled)) ∙ getD-at (take p bs) v [] 0 p (length-take-le p bs (omega arith)) in
+      let there : getD (take q bs) p 0 ≡ v = ap (λ (l : List ℕ). getD l p 0) (sym (w .spelled))
+      ∙ getD-at (take p bs) v [] 0 p (length-take-le p bs (omega arith)) in
       (h, sym (getD-take q bs p 0 (omega arith)) ∙ there, e)
 
   -- what is spelled in two parts
@@ -120,7 +124,8 @@ module _ {A : Type 0} where
 module _ {A B : Type 0} where
   -- a refusal by a part is one by the whole
   passed : {p q n k : ℕ} {F : List ℕ → Read A} {G : List ℕ → Read B} {bs : List ℕ}
-      → p ≤ q → Refusal q F bs n k → ((more : List ℕ) → F (take (2 + k) bs ++ more) ≡ refused n k → G (take (2 + k) bs ++ more) ≡ refused n k) → Refusal p G bs n k
+      → p ≤ q → Refusal q F bs n k → ((more : List ℕ) → F (take (2 + k) bs ++ more) ≡ refused n k → G (take (2 + k) bs ++ more) ≡ refused n k)
+      → Refusal p G bs n k
   passed h o g =
       record { low = o .low; high = o .high; after = omega arith; within = o .within; ends = o .ends; early = λ u more. g more (o .early u more) }
 
@@ -144,7 +149,8 @@ module _ {A B : Type 0} where
       both : List ℕ → Read B
       both bs = then (F bs) (λ a q. G a q bs)
 
-      second : (bs : List ℕ) (a : A) (q : ℕ) → Ok a → Spells bs p (bytes a) q → (r : Read B) → Outcome q (R a) (G a q) bs r → Outcome p (Then Ok bytes R) both bs r
+      second : (bs : List ℕ) (a : A) (q : ℕ) → Ok a → Spells bs p (bytes a) q → (r : Read B) → Outcome q (R a) (G a q) bs r
+          → Outcome p (Then Ok bytes R) both bs r
       second bs a q v w (refused n k) o =
           passed (omega arith) o (λ more e.
           let w′ = spells-early bs p q (2 + k) (bytes a) more (omega arith) w in
@@ -183,7 +189,13 @@ module _ (bs : List ℕ) (p : ℕ) where
       ⊎-elim
       (λ (e : (eqb c 0 || ltb 127 c) ≡ true). inl (rw (number-two h k g, two, e)))
       (λ (e : (eqb c 0 || ltb 127 c) ≡ false).
-      inr (getD bs p 0 - 128 + 128 * c, suc (suc p), rw (number-two h k g, two, e), λ u. absurd (omega (arith, eqb-false c 0 (or-false-left (eqb c 0) (ltb 127 c) e)))))
+      inr (
+        getD bs p 0 - 128 + 128 * c,
+        suc (suc p),
+        rw (number-two h k g, two, e),
+        λ u. absurd
+            (omega (arith, eqb-false c 0 (or-false-left (eqb c 0) (ltb 127 c) e))),
+      ))
       (cases (eqb c 0 || ltb 127 c))
 
   -- a number is whole, or the sheet ends
@@ -225,7 +237,8 @@ number-early bs p more (h, w) =
 -- a number below n has one byte, for the limits are small
 module _ (n why : ℕ) (fit : (n ≤ 128) × (1 < why) × (why < 6)) where
   -- the test against the limit
-  below-test : (bs : List ℕ) (p v q : ℕ) → numberAt bs p ≡ taken v q → (b : Bool) → ltb v n ≡ b → belowAt bs n why p ≡ elim b [ true ↦ taken v q | false ↦ refused why p ]
+  below-test : (bs : List ℕ) (p v q : ℕ) → numberAt bs p ≡ taken v q → (b : Bool) → ltb v n ≡ b
+      → belowAt bs n why p ≡ elim b [ true ↦ taken v q | false ↦ refused why p ]
   unfolding belowAt
   below-test bs p v q e b t = rw (e, then, t)
 
@@ -244,7 +257,15 @@ module _ (n why : ℕ) (fit : (n ≤ 128) × (1 < why) × (why < 6)) where
       Out bs = Outcome p (Exactly (λ v. ltb v n ≡ true) (λ v. v ∷ [])) (λ bs. belowAt bs n why p) bs (belowAt bs n why p)
 
       ended : (bs : List ℕ) → ((k : ℕ) × (p ≤ k) × (k ≤ length bs) × Ends bs k × (numberAt bs p ≡ refused 1 k)) → Out bs
-      ended bs (k, a, b, c, e) = rw e (record { low = omega arith; high = omega arith; after = a; within = b; ends = λ _. c; early = λ z more. absurd (omega arith) })
+      ended bs (k, a, b, c, e) = rw e (record {
+        low = omega arith;
+        high = omega arith;
+        after = a;
+        within = b;
+        ends = λ _. c;
+        early = λ z more. absurd
+            (omega arith);
+      })
 
       -- a whole number that is refused
       faulty : (bs : List ℕ) (k : ℕ) → p ≤ length bs → Whole bs p → (1 < k) × (k < 6) → belowAt bs n why p ≡ refused k p → Out bs
@@ -428,7 +449,8 @@ module _ {A : Type 0} where
   allFrom-both t u i (a ∷ l) = ap (λ b. (t i a && u a) && b) (allFrom-both t u (suc i) l) ∙ and-four (t i a) (u a) (allFrom t (suc i) l) (all u l)
 
   -- as `linesWell` says it, by number
-  allFrom-at : (t : ℕ → A → Bool) (d : A) (before l : List A) (i : ℕ) → length before ≡ i → all (λ j. t j (getD (before ++ l) j d)) (from i (length l)) ≡ allFrom t i l
+  allFrom-at : (t : ℕ → A → Bool) (d : A) (before l : List A) (i : ℕ) → length before ≡ i
+      → all (λ j. t j (getD (before ++ l) j d)) (from i (length l)) ≡ allFrom t i l
   allFrom-at t d before [] i e = refl
   allFrom-at t d before (a ∷ l) i e =
       let rest = allFrom-at t d (before ++ (a ∷ [])) l (suc i) (omega (arith, length-append before (a ∷ []))) in
@@ -451,7 +473,8 @@ module _ {A : Type 0} (ok : ℕ → A → Bool) (bytes : A → List ℕ) (one : 
       (reads-then (reads i p (omega arith)) (λ a q _. reads-then (reads-several (suc i) k q (omega arith)) (λ l t _. reads-none t (a ∷ l))))
     where
       back : (l : List A) (zs : List ℕ) → Exactly (λ l. (length l ≡ suc k) × (allFrom ok i l ≡ true)) (each bytes) l zs
-          → Then (λ a. ok i a ≡ true) bytes (λ a. Then (λ m. (length m ≡ k) × (allFrom ok (suc i) m ≡ true)) (each bytes) (λ m. Exactly (λ b. b ≡ a ∷ m) (λ b. []))) l zs
+          → Then (λ a. ok i a ≡ true) bytes (λ a. Then (λ m. (length m ≡ k) × (allFrom ok (suc i) m ≡ true)) (each bytes)
+          (λ m. Exactly (λ b. b ≡ a ∷ m) (λ b. []))) l zs
       back [] zs ((n, t), e) = absurd (omega arith)
       back (a ∷ l) zs ((n, t), e) = (
         a,
@@ -482,7 +505,8 @@ record Checked (s : Sheet) : Type 0 where
 -- the reader's tests are those of `wellFormed` and `inLimits`
 lines-are : (s : Sheet) → allFrom lineOk 0 (s .lines) ≡ (linesWell s && all lineInLimits (s .lines))
 unfolding linesWell
-lines-are s = allFrom-both operandsBelow lineInLimits 0 (s .lines) ∙ ap (λ b. b && all lineInLimits (s .lines)) (sym (allFrom-at operandsBelow top [] (s .lines) 0 refl))
+lines-are s = allFrom-both operandsBelow lineInLimits 0 (s .lines)
+    ∙ ap (λ b. b && all lineInLimits (s .lines)) (sym (allFrom-at operandsBelow top [] (s .lines) 0 refl))
 
 rules-are : (s : Sheet) → allFrom (λ i. ruleOk (count s)) 0 (s .rules) ≡ rulesWell s
 unfolding rulesWell
@@ -531,7 +555,8 @@ well-checked s w l =
 -- the bytes, section by section
 bytes-are : (s : Sheet)
     → bytesOf s
-    ≡ section lineBytes (s .lines) ++ (section ruleBytes (s .rules) ++ ((s .individuals ∷ []) ++ (section classBytes (s .classes) ++ (section roleBytes (s .roles) ++ []))))
+    ≡ section lineBytes (s .lines) ++ (section ruleBytes (s .rules)
+    ++ ((s .individuals ∷ []) ++ (section classBytes (s .classes) ++ (section roleBytes (s .roles) ++ []))))
 unfolding bytesOf
 bytes-are s = simp (append-assoc, append-nil)
 
@@ -567,7 +592,8 @@ reads-sections =
     reads-then (reads-below (suc mostIndividuals) 3 (omega arith) q) (λ k t i.
     let g : k ≤ 128 = omega (arith, ltb-true k (suc mostIndividuals) i) in
     reads-then (reads-counted (λ i. classOk n k) classBytes (λ bs. classAt bs n k) (λ i p _. reads-class n k i p h g) mostClasses t (omega arith)) (λ cs u _.
-    reads-then (reads-counted (λ i e. roleOk k e && roleInLimits e) roleBytes (λ bs. roleAt bs k) (λ i p _. reads-role k i p g) mostRoles u (omega arith)) (λ es v _.
+    reads-then (reads-counted (λ i e. roleOk k e && roleInLimits e) roleBytes (λ bs. roleAt bs k) (λ i p _. reads-role k i p g) mostRoles u (omega arith))
+    (λ es v _.
     reads-none v (record { lines = ls; rules = rs; individuals = k; classes = cs; roles = es })))))))
 
 module _ (bs : List ℕ) where
@@ -613,7 +639,8 @@ module _ (bs : List ℕ) where
       go (refused n k) e = fault n k e
       go (taken s p) e = ⊎-elim (λ t. spare s p e (ltb-true p (length bs) t)) (λ t. whole s p e (ltb-false p (length bs) t)) (cases (ltb p (length bs)))
 
-  read-refused : (n p : ℕ) → readSheet bs ≡ refused n p → (sectionsAt bs ≡ refused n p) ⊎ ((s : Sheet) × (n ≡ 6) × (p < length bs) × (sectionsAt bs ≡ taken s p))
+  read-refused : (n p : ℕ) → readSheet bs ≡ refused n p → (sectionsAt bs ≡ refused n p)
+      ⊎ ((s : Sheet) × (n ≡ 6) × (p < length bs) × (sectionsAt bs ≡ taken s p))
   read-refused n p e = elim reading [
     | fault m k a ↦ inl (a ∙ sym (read-fault m k a) ∙ e)
     | spare s q a h ↦

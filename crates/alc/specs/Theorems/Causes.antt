@@ -1,23 +1,26 @@
 -- What the cause list speaks of: `forces` is what its name says; and that leaving out one rule at a time tells whether any proper subset forces.
-use Prim.Native.Nat.{ℕ, zero, suc, _+_, _-_, _^_, _<_, max}
+use Prim.Native.Nat.{ℕ, suc, _+_, _-_, _^_, _<_, max}
 use mathlib.Core.Bool.{Bool, true, false, not as flip, _&&_, _||_, cond, false≢true}
 use mathlib.Core.Path.{_≡_, refl, sym, _∙_, ap, subst}
 use mathlib.Core.Logic.{_↔_, ⊎-elim}
-use mathlib.Core.List.{List, [], _∷_, map, List·Memᴰ·eq-of-singleton, List·Memᴰ·head, List·Memᴰ·tail, List·Memᴰ·append-cases, Memᴰ·append-left, Memᴰ·append-right, Memᴰ·cast}
+use mathlib.Core.List.{List, [], _∷_, List·Memᴰ·eq-of-singleton, List·Memᴰ·head, List·Memᴰ·tail, List·Memᴰ·append-cases, Memᴰ·append-left, Memᴰ·append-right}
+use mathlib.Core.List.{Memᴰ·cast}
 use lib.ListN.{length, getD}
 use lib.Dec.{eqb}
 use lib.Pow.{pow-pos}
 use borrow.Author.Tests.{not-true, eqb-false, ne-eqb}
 use native.Mathlib.Omega.{arith}
 use Rattle.alc.specs.Bits.{bit}
-use Rattle.alc.specs.Lists.{_∈_, nothing, Maybe, just, filter, from, upTo, all}
+use Rattle.alc.specs.Lists.{_∈_, nothing, Maybe, just, filter, upTo, all}
 use Rattle.alc.specs.Sheet.{count, Rule, ClassAssertion, Sheet}
 use Rattle.alc.specs.Meaning.{truth, Forces, meetsRules, meetsClasses, meetsRoles}
 use Rattle.alc.specs.Label.{lineOf, markTrue, fails}
 use Rattle.alc.specs.Settle.{Joint}
 use Rattle.alc.specs.Judge.{Entry, EntriesTrue, firstFine}
 use Rattle.alc.specs.Causes.{keepRules, denial, within, NoSubsetForces, forcing, noSubsetForces, Cause, listed, isNothing, withRules, ruleSets, forces}
-use Rattle.alc.specs.Theorems.Lists.{and-both, and-right, filter-intro, implies, implied, tests-same, same?, all-fails, not-of-false, or-false-left, or-false-right, cond-intro, cond-elim, clashing, cases, all-intro, here, all-elim, upTo-intro, filter-elim, and-left, upTo-elim, map-from}
+use Rattle.alc.specs.Theorems.Lists.{and-both, and-right, filter-intro, implies, implied, tests-same, same?, all-fails, not-of-false, or-false-left}
+use Rattle.alc.specs.Theorems.Lists.{or-false-right, cond-intro, cond-elim, clashing, cases, all-intro, here, all-elim, upTo-intro, filter-elim}
+use Rattle.alc.specs.Theorems.Lists.{and-left, upTo-elim, map-from}
 use Rattle.alc.specs.Theorems.Sheet.{WellFormed}
 use Rattle.alc.specs.Theorems.Bits.{bit-le, bit-below, bit-ext, bit-without-other}
 use Rattle.alc.specs.Theorems.Meaning.{truth-lines, rules-intro, rules-elim}
@@ -61,7 +64,8 @@ keepRules-in n i (q ∷ rs) r h =
     (List·Memᴰ·append-cases (cond (bit n i) (q ∷ []) []) h)
 
 -- a rule is kept by every set that has the numbers of a set that keeps it
-keepRules-mono : (m n i : ℕ) (rs : List Rule) → ((j : ℕ) → j < i + length rs → bit m j ≡ true → bit n j ≡ true) → (r : Rule) → r ∈ keepRules m i rs → r ∈ keepRules n i rs
+keepRules-mono : (m n i : ℕ) (rs : List Rule) → ((j : ℕ) → j < i + length rs → bit m j ≡ true → bit n j ≡ true) → (r : Rule) → r ∈ keepRules m i rs
+    → r ∈ keepRules n i rs
 keepRules-mono m n i [] h r k = k
 keepRules-mono m n i (q ∷ rs) h r k =
     ⊎-elim
@@ -70,7 +74,13 @@ keepRules-mono m n i (q ∷ rs) h r k =
     (List·Memᴰ·append-cases (cond (bit m i) (q ∷ []) []) k)
 
 pub kept-well-formed : (s : Sheet) → WellFormed s → (n : ℕ) → WellFormed (withRules s n)
-kept-well-formed s wf n = record { operands = wf .operands; rules = λ r h. wf .rules r (keepRules-in n 0 (s .rules) r h); classes = wf .classes; roles = wf .roles }
+kept-well-formed s wf n = record {
+  operands = wf .operands;
+  rules = λ r h. wf .rules r
+      (keepRules-in n 0 (s .rules) r h);
+  classes = wf .classes;
+  roles = wf .roles;
+}
 
 -- the flags say which sets force
 pub forcing-at : (s : Sheet) (port class n : ℕ) → n < 2 ^ length (s .rules) → getD (forcing s port class) n false ≡ forces (withRules s n) port class
@@ -81,15 +91,19 @@ module _ (s : Sheet) (wf : WellFormed s) (port class : ℕ) (p< : port < s .indi
   pub forces-at : (n : ℕ) → (forces (withRules s n) port class ≡ true) ↔ Forces (withRules s n) port class
   forces-at n = forces-is (withRules s n) (kept-well-formed s wf n) port class p< c<
 
-  pub no-subset-elim : (n : ℕ) → noSubsetForces s (forcing s port class) n ≡ true → (m : ℕ) → m < 2 ^ length (s .rules) → within (length (s .rules)) m n ≡ true → (m ≡ n → ⊥)
+  pub no-subset-elim : (n : ℕ) → noSubsetForces s (forcing s port class) n ≡ true → (m : ℕ) → m < 2 ^ length (s .rules)
+      → within (length (s .rules)) m n ≡ true → (m ≡ n → ⊥)
       → forces (withRules s m) port class ≡ true → ⊥
   unfolding noSubsetForces
   no-subset-elim n e m h w ne f =
       let t : (within (length (s .rules)) m n && flip (eqb m n) && getD (forcing s port class) m false) ≡ false =
-      not-true _ (all-elim (λ m. flip (within (length (s .rules)) m n && flip (eqb m n) && getD (forcing s port class) m false)) (ruleSets s) e m (upTo-intro (2 ^ length (s .rules)) m h)) in
-      clashing _ (and-both (within (length (s .rules)) m n && flip (eqb m n)) _ (and-both (within (length (s .rules)) m n) _ w (ap flip (ne-eqb m n ne))) (forcing-at s port class m h ∙ f)) t
+      not-true _ (all-elim (λ m. flip (within (length (s .rules)) m n && flip (eqb m n) && getD (forcing s port class) m false)) (ruleSets s) e m
+      (upTo-intro (2 ^ length (s .rules)) m h)) in
+      clashing _ (and-both (within (length (s .rules)) m n && flip (eqb m n)) _ (and-both (within (length (s .rules)) m n) _ w (ap flip (ne-eqb m n ne)))
+      (forcing-at s port class m h ∙ f)) t
 
-  pub no-subset-intro : (n : ℕ) → ((m : ℕ) → m < 2 ^ length (s .rules) → within (length (s .rules)) m n ≡ true → (m ≡ n → ⊥) → forces (withRules s m) port class ≡ true → ⊥)
+  pub no-subset-intro : (n : ℕ) → ((m : ℕ) → m < 2 ^ length (s .rules) → within (length (s .rules)) m n ≡ true → (m ≡ n → ⊥)
+      → forces (withRules s m) port class ≡ true → ⊥)
       → noSubsetForces s (forcing s port class) n ≡ true
   unfolding noSubsetForces
   no-subset-intro n h =
@@ -100,7 +114,8 @@ module _ (s : Sheet) (wf : WellFormed s) (port class : ℕ) (p< : port < s .indi
       let m< : m < 2 ^ length (s .rules) = upTo-elim (2 ^ length (s .rules)) m i in
       ⊎-elim
       (λ (t : (W && E && G) ≡ true).
-      absurd (h m m< (and-left W E (and-left (W && E) G t)) (eqb-false m n (not-true (eqb m n) (and-right W E (and-left (W && E) G t)))) (sym (forcing-at s port class m m<) ∙ and-right (W && E) G t)))
+      absurd (h m m< (and-left W E (and-left (W && E) G t)) (eqb-false m n (not-true (eqb m n) (and-right W E (and-left (W && E) G t))))
+      (sym (forcing-at s port class m m<) ∙ and-right (W && E) G t)))
       (λ t. ap flip t)
       (cases (W && E && G)))
 
@@ -116,14 +131,17 @@ module _ (s : Sheet) (wf : WellFormed s) (port class : ℕ) (p< : port < s .indi
           let sm = and-left (noSubsetForces s (forcing s port class) n) (getD (forcing s port class) n false) t in
           record {
             is-set = n<;
-            forced = forces-at n .0 (sym (forcing-at s port class n n<) ∙ and-right (noSubsetForces s (forcing s port class) n) (getD (forcing s port class) n false) t);
+            forced = forces-at n .0 (sym (forcing-at s port class n n<)
+                ∙ and-right (noSubsetForces s (forcing s port class) n) (getD (forcing s port class) n false) t);
             least = λ m m< w ne f. no-subset-elim n sm m m< w ne (forces-at m .1 f);
           }
 
       back : Cause s port class n → n ∈ filter (λ n. noSubsetForces s (forcing s port class) n && getD (forcing s port class) n false) (ruleSets s)
       back c =
-          filter-intro (λ n. noSubsetForces s (forcing s port class) n && getD (forcing s port class) n false) (ruleSets s) (upTo-intro (2 ^ length (s .rules)) n (c .is-set))
-          (and-both (noSubsetForces s (forcing s port class) n) _ (no-subset-intro n (λ m m< w ne f. c .least m m< w ne (forces-at m .0 f))) (forcing-at s port class n (c .is-set) ∙ forces-at n .1 (c .forced)))
+          filter-intro (λ n. noSubsetForces s (forcing s port class) n && getD (forcing s port class) n false) (ruleSets s)
+          (upTo-intro (2 ^ length (s .rules)) n (c .is-set))
+          (and-both (noSubsetForces s (forcing s port class) n) _ (no-subset-intro n (λ m m< w ne f. c .least m m< w ne (forces-at m .0 f)))
+          (forcing-at s port class n (c .is-set) ∙ forces-at n .1 (c .forced)))
 
 -- ---- more rules force more
 within-elim : (t m n : ℕ) → within t m n ≡ true → (j : ℕ) → j < t → bit m j ≡ true → bit n j ≡ true
@@ -138,7 +156,8 @@ within-both t m n m< n< w v = bit-ext m n (λ j.
     tests-same (bit m j) (bit n j) (λ e. within-elim t m n w j (bit-below m t j m< e) e) (λ e. within-elim t n m v j (bit-below n t j n< e) e))
 
 -- what a set of rules forces, a set that has all of them forces
-pub forces-mono : (s : Sheet) (port class m n : ℕ) → within (length (s .rules)) m n ≡ true → Forces (withRules s m) port class → Forces (withRules s n) port class
+pub forces-mono : (s : Sheet) (port class m n : ℕ) → within (length (s .rules)) m n ≡ true → Forces (withRules s m) port class
+    → Forces (withRules s n) port class
 unfolding meetsClasses meetsRoles
 forces-mono s port class m n w f I e =
     let few = withRules s m in
@@ -150,7 +169,8 @@ forces-mono s port class m n w f I e =
     let rules′ : meetsRules few I ≡ true = rules-intro few I (λ r k x x<.
     subst (λ (v : ℕ → ℕ → Bool). (flip (v (r .sub) x) || v (r .sup) x) ≡ true) same
     (rules-elim many I rules r (keepRules-mono m n 0 (s .rules) (λ j j<. within-elim (length (s .rules)) m n w j (omega arith)) r k) x x<)) in
-    let classes′ : meetsClasses few I ≡ true = subst (λ (v : ℕ → ℕ → Bool). all (λ (c : ClassAssertion). v (c .class) (I .denotes (c .individual))) (s .classes) ≡ true) same classes in
+    let classes′ : meetsClasses few I ≡ true = subst (λ (v : ℕ → ℕ → Bool). all (λ (c : ClassAssertion). v (c .class) (I .denotes (c .individual)))
+    (s .classes) ≡ true) same classes in
     subst (λ (v : ℕ → ℕ → Bool). v class (I .denotes port) ≡ true) (sym same)
     (f I (and-both (meetsRules few I && meetsClasses few I) _ (and-both (meetsRules few I) _ rules′ classes′) roles))
 
@@ -175,5 +195,6 @@ drop-one s port class n n< = (there, back)
         let no : bit m i ≡ false = or-false-right (flip (bit n i)) (bit m i) q in
         h i (upTo-elim (length (s .rules)) i i-in) e
         (forces-mono s port class m (n - 2 ^ i) (within-intro (length (s .rules)) m (n - 2 ^ i) (λ j j-in.
-        bit-without-other n i j e (λ p. clashing (bit m j) j-in (ap (bit m) (sym p) ∙ no)) ∙ within-elim (length (s .rules)) m n w j (bit-below m (length (s .rules)) j m< j-in) j-in)) f))
+        bit-without-other n i j e (λ p. clashing (bit m j) j-in (ap (bit m) (sym p) ∙ no))
+        ∙ within-elim (length (s .rules)) m n w j (bit-below m (length (s .rules)) j m< j-in) j-in)) f))
         (cases (within (length (s .rules)) n m))

@@ -3,13 +3,14 @@ use Prim.Native.Nat.{ℕ, suc, _*_, _^_, _≤_}
 use mathlib.Core.Bool.{Bool, true, false, cond}
 use mathlib.Core.Path.{_≡_, refl, sym, _∙_, ap}
 use mathlib.Core.Logic.{_⊎_, inl, inr, ⊎-elim}
-use mathlib.Core.List.{List, [], _∷_, _++_, map, List·Memᴰ·head, List·Memᴰ·not-nil, List·Memᴰ·cases-cons, List·Memᴰ·append-cases, Memᴰ·append-left, Memᴰ·append-right, Memᴰ·map}
+use mathlib.Core.List.{List, [], _∷_, _++_, map, List·Memᴰ·head, List·Memᴰ·not-nil, List·Memᴰ·cases-cons, List·Memᴰ·append-cases, Memᴰ·append-left}
+use mathlib.Core.List.{Memᴰ·append-right, Memᴰ·map}
 use lib.ListN.{length, length-append, length-map}
 use lib.Dec.{eqb}
 use borrow.Author.Tests.{eqb-true, eqb-false}
 use native.Mathlib.Nat.{two-pow-succ}
 use native.Mathlib.Omega.{arith}
-use Rattle.alc.specs.Lists.{filter, _∈_, each, Distinct}
+use Rattle.alc.specs.Lists.{filter, _∈_, each, sublists, removeOne, Distinct}
 use Rattle.alc.specs.Theorems.Lists.{cases, clashing, here, filter-step, there}
 
 module _ {A : Type 0} where
@@ -38,10 +39,6 @@ module _ {A : Type 0} where
       pigeon xs r (d .1) (λ y i. ⊎-elim (λ q. absurd (d .0 (mathlib.Core.List.Memᴰ·cast (sym q) i))) (λ m. m) (k y (h y (there i)))) in
       omega arith
 
-  abbrev pub sublists : List A → List (List A)
-  sublists [] = [] ∷ []
-  sublists (x ∷ xs) = map (λ l. x ∷ l) (sublists xs) ++ sublists xs
-
   pub length-sublists : (l : List A) → length (sublists l) ≡ 2 ^ length l
   length-sublists [] = refl
   length-sublists (x ∷ xs) =
@@ -62,7 +59,8 @@ module _ {A : Type 0} where
   filter-filter p r h (x ∷ xs) =
       ⊎-elim
       (λ s. ⊎-elim
-      (λ t. rw (s .1, t .1) (⊎-elim (λ u. u .1 ∙ ap {B = List A} (λ w. x ∷ w) (filter-filter p r h xs)) (λ u. clashing (p x) (t .0) (u .0)) (filter-step p x (filter r xs))))
+      (λ t. rw (s .1, t .1) (⊎-elim (λ u. u .1 ∙ ap {B = List A} (λ w. x ∷ w) (filter-filter p r h xs)) (λ u. clashing (p x) (t .0) (u .0))
+      (filter-step p x (filter r xs))))
       (λ t. rw (s .1, t .1) (⊎-elim (λ u. clashing (p x) (u .0) (t .0)) (λ u. u .1 ∙ filter-filter p r h xs) (filter-step p x (filter r xs))))
       (filter-step p x xs))
       (λ s. ⊎-elim
@@ -83,11 +81,6 @@ module _ {A B : Type 0} where
   pub length-each : (f : A → List B) (n : ℕ) (l : List A) → ((x : A) → x ∈ l → length (f x) ≡ n) → length (each f l) ≡ length l * n
   length-each f n [] h = omega arith
   length-each f n (x ∷ xs) h = length-append (f x) (each f xs) ∙ omega (arith, h x here, length-each f n xs (λ y i. h y (there i)))
-
--- l without its first i
-abbrev pub removeOne : ℕ → List ℕ → List ℕ
-removeOne i [] = []
-removeOne i (x ∷ xs) = elim (eqb x i) [ true ↦ xs | false ↦ x ∷ removeOne i xs ]
 
 remove-step : (i x : ℕ) (xs : List ℕ) → ((x ≡ i) × (removeOne i (x ∷ xs) ≡ xs)) ⊎ ((x ≡ i → ⊥) × (removeOne i (x ∷ xs) ≡ x ∷ removeOne i xs))
 remove-step i x xs =
@@ -111,7 +104,8 @@ filter-removeOne p i e (x ∷ xs) =
     (λ s. rw (s .1) (⊎-elim (λ t. clashing (p x) (t .0) (ap p (s .0) ∙ e)) (λ t. sym (t .1)) (filter-step p x xs)))
     (λ s. rw (s .1)
     (⊎-elim
-    (λ t. rw (t .1) (⊎-elim (λ u. u .1 ∙ ap {B = List ℕ} (λ w. x ∷ w) (filter-removeOne p i e xs)) (λ u. clashing (p x) (t .0) (u .0)) (filter-step p x (removeOne i xs))))
+    (λ t. rw (t .1) (⊎-elim (λ u. u .1 ∙ ap {B = List ℕ} (λ w. x ∷ w) (filter-removeOne p i e xs)) (λ u. clashing (p x) (t .0) (u .0))
+    (filter-step p x (removeOne i xs))))
     (λ t. rw (t .1) (⊎-elim (λ u. clashing (p x) (u .0) (t .0)) (λ u. u .1 ∙ filter-removeOne p i e xs) (filter-step p x (removeOne i xs))))
     (filter-step p x xs)))
     (remove-step i x xs)

@@ -3,7 +3,8 @@ use Prim.Native.Nat.{ℕ, zero, suc, _<_, max, _+_}
 use mathlib.Core.Bool.{true, false, _&&_}
 use mathlib.Core.Path.{_≡_, refl, sym, _∙_, subst}
 use mathlib.Core.Logic.{_↔_, ⊎-elim}
-use mathlib.Core.List.{List, [], _∷_, map, List·Memᴰ·not-nil, List·Memᴰ·cases-cons, List·Memᴰ·eq-of-singleton, Memᴰ·map, Memᴰ·of-map, Memᴰ·cast, Memᴰ·append-left, Memᴰ·append-right, List·Memᴰ·append-cases}
+use mathlib.Core.List.{List, [], _∷_, map, List·Memᴰ·not-nil, List·Memᴰ·cases-cons, List·Memᴰ·eq-of-singleton, Memᴰ·map, Memᴰ·of-map, Memᴰ·cast}
+use mathlib.Core.List.{Memᴰ·append-left, Memᴰ·append-right, List·Memᴰ·append-cases}
 use lib.ListN.{length, length-set, length-replicate, replicate}
 use native.Mathlib.Omega.{arith}
 use Rattle.alc.specs.Lists.{each, all, nothing, Maybe, just, _∈_, first}
@@ -11,10 +12,11 @@ use Rattle.alc.specs.Sheet.{ClassAssertion, RoleAssertion, count, Sheet}
 use Rattle.alc.specs.Meaning.{meetsRoles, meetsClasses, meets, meetsRules, truth, Interpretation}
 use Rattle.alc.specs.Label.{TrueAt, clashes, lineOf, blank, markTrue, Label, holds, has}
 use Rattle.alc.specs.Settle.{label, settle, Joint, markAt}
-use Rattle.alc.specs.Seeds.{bound, reach, Ask, among, seeds, seedSurvives, fine, asks, SeedSatisfiable, expansions, survivors, successors, includeAll}
+use Rattle.alc.specs.Seeds.{bound, reach, Ask, among, seeds, seedSurvives, fine, asks, SeedSatisfiable, expansions, survivors, successors, includeAll, universe}
 use Rattle.alc.specs.Judge.{entries, SatisfiableWith, start, Entry, EntriesTrue, enter, firstFine, settledJoints}
 use Rattle.alc.specs.Model.{chosen, modelSeeds, orBlank, elementOf}
-use Rattle.alc.specs.Theorems.Lists.{tests-same, each-elim, all-elim, first-is, and-left, and-right, clashing, here, Found, and-both, all-intro, there, each-intro, missing, found, any-none}
+use Rattle.alc.specs.Theorems.Lists.{tests-same, each-elim, all-elim, first-is, and-left, and-right, clashing, here, Found, and-both, all-intro, there}
+use Rattle.alc.specs.Theorems.Lists.{each-intro, missing, found, any-none}
 use Rattle.alc.specs.Theorems.Sheet.{WellFormed}
 use Rattle.alc.specs.Theorems.Meaning.{roles-elim, classes-elim}
 use Rattle.alc.specs.Theorems.Label.{has-blank}
@@ -27,8 +29,9 @@ use Rattle.alc.specs.Theorems.Witness.{asked-true}
 use Rattle.alc.specs.Theorems.Expand.{expand-keeps, expand-finds}
 use Rattle.alc.specs.Theorems.Family.{family-true, family-rules, family-roles, family, family-element}
 use Rattle.alc.specs.Theorems.Survive.{Closed, survivors-good, survivor-satisfiable, satisfiable-survives}
-use Rattle.alc.specs.Theorems.Bound.{seed-in-universe, universe}
-use Rattle.alc.specs.Theorems.Reach.{ClosedBy, includeAll-all, closed-by-successors, grown-in, includeAll-grown, successors-known, reach-closed, grown-refl, again, reach-all, Grown}
+use Rattle.alc.specs.Theorems.Bound.{seed-in-universe}
+use Rattle.alc.specs.Theorems.Reach.{ClosedBy, includeAll-all, closed-by-successors, grown-in, includeAll-grown, successors-known, reach-closed}
+use Rattle.alc.specs.Theorems.Reach.{grown-refl, again, reach-all, Grows}
 
 -- the entries are of individuals (or the unnamed element, 0) and lines of the sheet
 abbrev pub EntriesFit : Sheet → List Entry → Type 0
@@ -38,7 +41,8 @@ EntriesFit s xs = (x : Entry) → x ∈ xs → (x .individual < max 1 (s .indivi
 enter-extends : (xs : List Entry) (J : Joint) → Extends J (enter xs J)
 enter-extends [] J = record { size = refl; more = λ a m e. e }
 enter-extends (x ∷ xs) J =
-    extends-trans J (markAt J (x .individual) (x .mark ∷ [])) _ (mark-extends J (x .individual) (x .mark ∷ [])) (enter-extends xs (markAt J (x .individual) (x .mark ∷ [])))
+    extends-trans J (markAt J (x .individual) (x .mark ∷ [])) _ (mark-extends J (x .individual) (x .mark ∷ []))
+    (enter-extends xs (markAt J (x .individual) (x .mark ∷ [])))
 
 enter-has : (xs : List Entry) (J : Joint) (x : Entry) → x ∈ xs → x .individual < length J → has (label (enter xs J) (x .individual)) (x .mark) ≡ true
 enter-has [] J x h b = absurd (List·Memᴰ·not-nil h)
@@ -47,20 +51,24 @@ enter-has (d ∷ xs) J x h b =
     ⊎-elim
     (λ (q : x ≡ d).
     let b′ : d .individual < length J = subst (λ (y : Entry). y .individual < length J) q b in
-    let now : has (label K (d .individual)) (d .mark) ≡ true = rw (label-mark J (d .individual) (d .mark ∷ []) b′) (addAll-has (label J (d .individual)) (d .mark ∷ []) (d .mark) here) in
+    let now : has (label K (d .individual)) (d .mark) ≡ true = rw (label-mark J (d .individual) (d .mark ∷ []) b′)
+    (addAll-has (label J (d .individual)) (d .mark ∷ []) (d .mark) here) in
     subst (λ (y : Entry). has (label (enter xs K) (y .individual)) (y .mark) ≡ true) (sym q) (enter-extends xs K .more (d .individual) (d .mark) now))
     (λ m. enter-has xs K x m (rw (length-set J (d .individual)) b))
     (List·Memᴰ·cases-cons h)
 
 -- the class assertions are entries
-class-entry : (s : Sheet) (xs : List Entry) (c : ClassAssertion) → c ∈ s .classes → record { individual = c .individual; mark = holds (c .class) } ∈ entries s xs
+class-entry : (s : Sheet) (xs : List Entry) (c : ClassAssertion) → c ∈ s .classes
+    → record { individual = c .individual; mark = holds (c .class) } ∈ entries s xs
 class-entry s xs c h = Memᴰ·append-left xs (Memᴰ·map (λ (c : ClassAssertion). record { individual = c .individual; mark = holds (c .class) }) h)
 
-entries-all {ℓ} : (P : Entry → Type ℓ) (s : Sheet) (xs : List Entry) → ((c : ClassAssertion) → c ∈ s .classes → P (record { individual = c .individual; mark = holds (c .class) }))
+entries-all {ℓ} : (P : Entry → Type ℓ) (s : Sheet) (xs : List Entry)
+    → ((c : ClassAssertion) → c ∈ s .classes → P (record { individual = c .individual; mark = holds (c .class) }))
     → ((x : Entry) → x ∈ xs → P x) → (x : Entry) → x ∈ entries s xs → P x
 entries-all P s xs p q x h =
     ⊎-elim
-    (λ m. let (c, c-in, e) = Memᴰ·of-map (λ (c : ClassAssertion). record { individual = c .individual; mark = holds (c .class) }) (s .classes) m in subst P e (p c c-in))
+    (λ m. let (c, c-in, e) = Memᴰ·of-map (λ (c : ClassAssertion). record { individual = c .individual; mark = holds (c .class) }) (s .classes) m in
+    subst P e (p c c-in))
     (λ m. q x m)
     (List·Memᴰ·append-cases (map (λ (c : ClassAssertion). record { individual = c .individual; mark = holds (c .class) }) (s .classes)) h)
 
@@ -81,7 +89,7 @@ module _ (s : Sheet) (xs : List Entry) where
       (omega (arith, length-replicate {A = Label} (max 1 (s .individuals)) blank))
 
 -- ---- the empty list, to begin with
-pub nothing-yet : (s : Sheet) → Grown s [] []
+pub nothing-yet : (s : Sheet) → Grows s [] []
 nothing-yet s = grown-refl s [] tt (λ l h. absurd (List·Memᴰ·not-nil h))
 
 -- the seeds of clash-free labels are in the universe
@@ -100,7 +108,7 @@ module _ (s : Sheet) (wf : WellFormed s) where
   unfolding seedSurvives
   seed-complete l u sat =
       let C = reach (successors s) (bound s) 0 (l ∷ []) in
-      let g₀ : Grown s (l ∷ []) (l ∷ []) = grown-refl s (l ∷ []) ((λ m. List·Memᴰ·not-nil m), tt) (λ k m. Memᴰ·cast (List·Memᴰ·eq-of-singleton m) u) in
+      let g₀ : Grows s (l ∷ []) (l ∷ []) = grown-refl s (l ∷ []) ((λ m. List·Memᴰ·not-nil m), tt) (λ k m. Memᴰ·cast (List·Memᴰ·eq-of-singleton m) u) in
       let (g, cl) = reach-closed s (successors s) (successors-known s) (bound s) 0 (l ∷ []) g₀ (λ j j< j<C q i. absurd (omega arith)) (omega arith) in
       among-in l (survivors s C) (satisfiable-survives s wf C (closed-by-successors s C cl) l (grown-in s (l ∷ []) C g l here) sat)
 
@@ -176,13 +184,14 @@ module _ (s : Sheet) (wf : WellFormed s) where
         (includeAll-all (λ l. seedSurvives s l ≡ true) [] (each (seeds s) K) (λ l h. absurd (List·Memᴰ·not-nil h))
         (λ q h. let (l, l-in, i) = each-elim (seeds s) K h in fine-elim l (all-elim (fine s) K ok l l-in) q i))
 
-    B-grown : Grown s (includeAll [] (each (seeds s) K)) B × ClosedBy (λ l. seeds s (chosen s l)) B
+    B-grown : Grows s (includeAll [] (each (seeds s) K)) B × ClosedBy (λ l. seeds s (chosen s l)) B
         × ((q : Label) → q ∈ each (seeds s) K → q ∈ includeAll [] (each (seeds s) K))
     unfolding modelSeeds
     B-grown =
         let (g, all-in) = includeAll-grown s [] (each (seeds s) K) (nothing-yet s) (λ q h.
         let (l, l-in, i) = each-elim (seeds s) K h in seeds-known s l q (any-none (clashes s) K (done .clear) l l-in) i) in
-        let (g₁, cl) = reach-closed s (λ l. seeds s (chosen s l)) (λ l q i. successors-known s l q (chosen-next l q i)) (bound s) 0 (includeAll [] (each (seeds s) K))
+        let (g₁, cl) = reach-closed s (λ l. seeds s (chosen s l)) (λ l q i. successors-known s l q (chosen-next l q i)) (bound s) 0
+        (includeAll [] (each (seeds s) K))
         (again s [] (includeAll [] (each (seeds s) K)) g) (λ j j< j<C q i. absurd (omega arith)) (omega arith) in
         (g₁, cl, all-in)
 
@@ -200,7 +209,8 @@ module _ (s : Sheet) (wf : WellFormed s) where
     abbrev pub written : Interpretation
     written = family s wf (s .roles) K pos done fits B (chosen s) ch-in ch-closed first-asked
 
-    written-entry : (x : Entry) → x ∈ entries s xs → x .individual < max 1 (s .individuals) → lineOf (x .mark) < count s → markTrue s written (x .mark) (elementOf (length K + length B) (x .individual)) ≡ true
+    written-entry : (x : Entry) → x ∈ entries s xs → x .individual < max 1 (s .individuals) → lineOf (x .mark) < count s
+        → markTrue s written (x .mark) (elementOf (length K + length B) (x .individual)) ≡ true
     written-entry x h a b =
         let x< : x .individual < length K = omega (arith, more .size, start-length s xs) in
         rw (family-element s wf (s .roles) K pos done fits B (chosen s) ch-in ch-closed first-asked (x .individual) x<)
@@ -214,7 +224,8 @@ module _ (s : Sheet) (wf : WellFormed s) where
 
     written-roles : meetsRoles s written ≡ true
     unfolding meetsRoles
-    written-roles = all-intro (λ (e : RoleAssertion). written .inRole (e .role) (elementOf (length K + length B) (e .source)) (elementOf (length K + length B) (e .target))) (s .roles)
+    written-roles = all-intro (λ (e : RoleAssertion). written .inRole (e .role) (elementOf (length K + length B) (e .source))
+        (elementOf (length K + length B) (e .target))) (s .roles)
         (family-roles s wf (s .roles) K pos done fits B (chosen s) ch-in ch-closed first-asked)
 
     pub written-meets : meets s written ≡ true
@@ -245,7 +256,8 @@ module _ (s : Sheet) (wf : WellFormed s) where
       (written xs fit K K-in ok, written-meets xs fit K K-in ok, written-entries xs fit K K-in ok)
 
   -- ---- the other half
-  enter-true : (I : Interpretation) (mr : meetsRules s I ≡ true) (edges : (e : RoleAssertion) → e ∈ s .roles → I .inRole (e .role) (I .denotes (e .source)) (I .denotes (e .target)) ≡ true)
+  enter-true : (I : Interpretation) (mr : meetsRules s I ≡ true)
+      (edges : (e : RoleAssertion) → e ∈ s .roles → I .inRole (e .role) (I .denotes (e .source)) (I .denotes (e .target)) ≡ true)
       → (xs : List Entry) → EntriesTrue s I xs → (J : Joint) → AllTrue s I (I .denotes) J → AllTrue s I (I .denotes) (enter xs J)
   enter-true I mr edges [] h J t = t
   enter-true I mr edges (x ∷ xs) h J t =
@@ -259,7 +271,8 @@ module _ (s : Sheet) (wf : WellFormed s) where
   unfolding start
   start-true xs I rules classes edges more =
       enter-true I rules edges (entries s xs)
-      (entries-all (λ x. markTrue s I (x .mark) (I .denotes (x .individual)) ≡ true) s xs (classes-elim s I classes) more) (replicate (max 1 (s .individuals)) blank)
+      (entries-all (λ x. markTrue s I (x .mark) (I .denotes (x .individual)) ≡ true) s xs (classes-elim s I classes) more)
+      (replicate (max 1 (s .individuals)) blank)
       (λ a k b e. clashing (has blank k) (rw (label-replicate (max 1 (s .individuals)) a) at e) (has-blank k))
 
   -- Theorem C, the other half
@@ -271,7 +284,8 @@ module _ (s : Sheet) (wf : WellFormed s) where
       let roles : meetsRoles s I ≡ true = search (and-left, and-right) in
       let edges = roles-elim s I roles in
       let fits : Fits (s .roles) (length (start s xs)) = λ e h. omega (arith, start-length s xs, (wf .roles e h) .1) in
-      let (K, K-in, t) = settle-keeps s wf I rules (s .roles) (I .denotes) (I .denoted) edges (length (start s xs)) fits (start s xs) refl (start-true xs I rules classes edges more) in
+      let (K, K-in, t) = settle-keeps s wf I rules (s .roles) (I .denotes) (I .denoted) edges (length (start s xs)) fits (start s xs) refl
+      (start-true xs I rules classes edges more) in
       let (done, ext) = settle-finds s (s .roles) (start s xs) K K-in in
       let ok : all (fine s) K ≡ true = all-intro (fine s) K (λ l l-in.
       let (a, a<, e) = label-of K l l-in in

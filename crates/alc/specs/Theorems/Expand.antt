@@ -30,7 +30,8 @@ module _ (s : Sheet) (es : List RoleAssertion) (K : Joint) (done : Settled s es 
     rules = λ r i. not-false _ (done .done (rule a r) (h, i));
   }
     where
-      go : (m : Mark) → lineOf m < count s → (b : Bool) → b ≡ true → met (label K a) (elim b [ true ↦ demand s m | false ↦ every [] ]) ≡ true → met (label K a) (demand s m) ≡ true
+      go : (m : Mark) → lineOf m < count s → (b : Bool) → b ≡ true → met (label K a) (elim b [ true ↦ demand s m | false ↦ every [] ]) ≡ true
+          → met (label K a) (demand s m) ≡ true
       go m i true e q = q
       go m i false e q = absurd (false≢true e)
 

@@ -43,7 +43,8 @@ module _ (s : Sheet) (wf : WellFormed s) (es : List RoleAssertion) (J : Joint) (
     (closed : (l : Label) → l ∈ B → (q : Ask) → q ∈ asks s (ch l) → q .seed ∈ B)
     (start : (a : ℕ) → a < length J → (q : Ask) → q ∈ asks s (label J a) → q .seed ∈ B) where
   abbrev pub family : Interpretation
-  family = model s (labelAt J B ch) (edgeAt s es J B ch) (length J + length B) (some-one J B pos) (elementOf (length J + length B)) (element-below (length J + length B) (some-one J B pos))
+  family = model s (labelAt J B ch) (edgeAt s es J B ch) (length J + length B) (some-one J B pos) (elementOf (length J + length B))
+      (element-below (length J + length B) (some-one J B pos))
 
   -- an element is an individual or a seed
   data Kind (x : ℕ) : Type 0 where
@@ -90,7 +91,8 @@ module _ (s : Sheet) (wf : WellFormed s) (es : List RoleAssertion) (J : Joint) (
         omega arith,
         or-left _ (any (asserted (q .role) x (length J + y)) es)
             (any-intro (leads J B (q .role) (length J + y)) (asks s (labelAt J B ch x)) i
-            (and-both (eqb (q .role) (q .role)) _ (eq-eqb (q .role) (q .role) refl) (and-both (leb (length J) (length J + y)) _ (le-leb (length J) (length J + y) (omega arith)) found))),
+            (and-both (eqb (q .role) (q .role)) _ (eq-eqb (q .role) (q .role) refl)
+            (and-both (leb (length J) (length J + y)) _ (le-leb (length J) (length J + y) (omega arith)) found))),
         sub,
       )
 
@@ -128,18 +130,21 @@ module _ (s : Sheet) (wf : WellFormed s) (es : List RoleAssertion) (J : Joint) (
 
   -- Theorem B, for a settled joint label
   pub family-rules : meetsRules s family ≡ true
-  family-rules = rules-met s (labelAt J B ch) (edgeAt s es J B ch) (length J + length B) (some-one J B pos) (elementOf (length J + length B)) (element-below (length J + length B) (some-one J B pos)) wf all-quiet all-asked all-given
+  family-rules = rules-met s (labelAt J B ch) (edgeAt s es J B ch) (length J + length B) (some-one J B pos) (elementOf (length J + length B))
+      (element-below (length J + length B) (some-one J B pos)) wf all-quiet all-asked all-given
 
   pub family-true : (a : ℕ) → a < length J → TrueAt s family (label J a) a
   family-true a h m b e =
-      marks-true s (labelAt J B ch) (edgeAt s es J B ch) (length J + length B) (some-one J B pos) (elementOf (length J + length B)) (element-below (length J + length B) (some-one J B pos)) wf all-quiet all-asked all-given
+      marks-true s (labelAt J B ch) (edgeAt s es J B ch) (length J + length B) (some-one J B pos) (elementOf (length J + length B))
+      (element-below (length J + length B) (some-one J B pos)) wf all-quiet all-asked all-given
       a (omega arith) m b (rw (at-individual J B ch a h) e)
 
   pub family-element : (a : ℕ) → a < length J → elementOf (length J + length B) a ≡ a
   unfolding elementOf
   family-element a h = rw (lt-ltb a (length J + length B) (omega arith))
 
-  pub family-roles : (e : RoleAssertion) → e ∈ es → family .inRole (e .role) (elementOf (length J + length B) (e .source)) (elementOf (length J + length B) (e .target)) ≡ true
+  pub family-roles : (e : RoleAssertion) → e ∈ es → family .inRole (e .role) (elementOf (length J + length B) (e .source))
+      (elementOf (length J + length B) (e .target)) ≡ true
   unfolding edgeAt asserted
   family-roles e h =
       let (s<, t<) = fits e h in

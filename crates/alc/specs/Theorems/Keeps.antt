@@ -12,9 +12,11 @@ use native.Mathlib.Omega.{arith}
 use Rattle.alc.specs.Lists.{all, _∈_, any, upTo}
 use Rattle.alc.specs.Sheet.{some, or, RoleAssertion, and, line, count, Line, only, not, name, Sheet, top, bottom}
 use Rattle.alc.specs.Meaning.{meetsRules, value, truth, Interpretation}
-use Rattle.alc.specs.Label.{TrueAt, whenFails, every, whenHolds, clashes, pushed, Mark, fails, handed, lineOf, isName, demand, sameName, Demand, markTrue, either, isTop, Label, holds, has, isBottom, clashesAt}
+use Rattle.alc.specs.Label.{TrueAt, whenFails, every, whenHolds, clashes, pushed, Mark, fails, handed, lineOf, isName, demand, sameName, Demand}
+use Rattle.alc.specs.Label.{markTrue, either, isTop, Label, holds, has, isBottom, clashesAt}
 use Rattle.alc.specs.Settle.{who, rule, label, settle, follow, Move, meet, push, own, closes, settleWithin, Joint, wanted, markAt}
-use Rattle.alc.specs.Theorems.Lists.{not-and, each-elim, all-elim, one-true, upTo-intro, and-left, and-right, clashing, implies, here, both-true, upTo-elim, all-intro, or-cases, not-or, cond-elim, not-and-left, any-elim, any-none}
+use Rattle.alc.specs.Theorems.Lists.{not-and, each-elim, all-elim, one-true, upTo-intro, and-left, and-right, clashing, implies, here, both-true}
+use Rattle.alc.specs.Theorems.Lists.{upTo-elim, all-intro, or-cases, not-or, cond-elim, not-and-left, any-elim, any-none}
 use Rattle.alc.specs.Theorems.Sheet.{WellFormed}
 use Rattle.alc.specs.Theorems.Meaning.{rules-elim, truth-law}
 use Rattle.alc.specs.Theorems.Moves.{Listed, label-of, mark-cases}
@@ -95,7 +97,8 @@ module _ (s : Sheet) (wf : WellFormed s) (I : Interpretation) where
       let no-name : (H && N) ≡ true → ⊥ = λ k.
       let (j, j-in, q) = any-elim (λ j. has l (fails j) && sameName (line s i) (line s j)) (upTo (count s)) (and-right H N k) in
       clashing _ (value-holds l x i i< t (and-left H N k))
-      (same-value I (truth s I) (line s i) (line s j) x (and-right (has l (fails j)) _ q) ∙ value-fails l x j (upTo-elim (count s) j j-in) t (and-left (has l (fails j)) _ q)) in
+      (same-value I (truth s I) (line s i) (line s j) x (and-right (has l (fails j)) _ q)
+      ∙ value-fails l x j (upTo-elim (count s) j j-in) t (and-left (has l (fails j)) _ q)) in
       ⊎-elim (λ k. ⊎-elim (λ k. ⊎-elim no-bottom no-top (or-cases _ _ k)) no-both (or-cases _ _ k)) no-name (or-cases _ _ c)
 
   -- what a true mark demands is true
@@ -136,13 +139,15 @@ module _ (s : Sheet) (wf : WellFormed s) (I : Interpretation) where
   handed-true (some t i) r x y h f b e p q m k =
       let (c, n) = cond-elim (eqb t r && f) k in
       let t-r : t ≡ r = eqb-true t r (and-left (eqb t r) f c) in
-      let no : (I .inRole t x y && truth s I i y) ≡ false = any-none (λ y. I .inRole t x y && truth s I i y) (upTo (I .size)) (q (and-right (eqb t r) f c)) y (upTo-intro (I .size) y b) in
+      let no : (I .inRole t x y && truth s I i y) ≡ false = any-none (λ y. I .inRole t x y && truth s I i y) (upTo (I .size)) (q (and-right (eqb t r) f c)) y
+      (upTo-intro (I .size) y b) in
       let e′ : I .inRole t x y ≡ true = rw t-r e in
       rw n (not-and-left (I .inRole t x y) (truth s I i y) no e′)
   handed-true (only t i) r x y h f b e p q m k =
       let (c, n) = cond-elim (eqb t r && h) k in
       let t-r : t ≡ r = eqb-true t r (and-left (eqb t r) h c) in
-      let all-y : (flip (I .inRole t x y) || truth s I i y) ≡ true = all-elim (λ y. flip (I .inRole t x y) || truth s I i y) (upTo (I .size)) (p (and-right (eqb t r) h c)) y (upTo-intro (I .size) y b) in
+      let all-y : (flip (I .inRole t x y) || truth s I i y) ≡ true = all-elim (λ y. flip (I .inRole t x y) || truth s I i y) (upTo (I .size))
+      (p (and-right (eqb t r) h c)) y (upTo-intro (I .size) y b) in
       rw n (implies (I .inRole t x y) (truth s I i y) all-y (rw t-r e))
 
   pub pushed-true : (l : Label) (r x y : ℕ) → TrueAt s I l x → y < I .size → I .inRole r x y ≡ true → (m : Mark) → m ∈ pushed s r l → markTrue s I m y ≡ true
@@ -179,7 +184,8 @@ module _ (s : Sheet) (wf : WellFormed s) (I : Interpretation) where
         (pushed-true (label J (e .source)) (e .role) (p (e .source)) (p (e .target)) (t (e .source)) (inside (e .target)) (edges e h))
 
     module _ (k : ℕ) (fits : Fits es k) where
-      follow-keeps : (F : Joint → List Joint) (J : Joint) (a : ℕ) (d : Demand) → length J ≡ k → AllTrue s I p J → demandTrue s I d (p a) ≡ true → Less (count s) J a d
+      follow-keeps : (F : Joint → List Joint) (J : Joint) (a : ℕ) (d : Demand) → length J ≡ k → AllTrue s I p J → demandTrue s I d (p a) ≡ true
+          → Less (count s) J a d
           → ((L : Joint) → length L ≡ k → unsetAll (count s) L < unsetAll (count s) J → AllTrue s I p L → (K : Joint) × (K ∈ F L) × AllTrue s I p K)
           → (K : Joint) × (K ∈ follow F J (meet J a d)) × AllTrue s I p K
       follow-keeps F J a (every ms) len t w less ih =
@@ -192,7 +198,8 @@ module _ (s : Sheet) (wf : WellFormed s) (I : Interpretation) where
           (K, Memᴰ·append-right (F (markAt J a (x ∷ []))) i, u))
           (or-cases (markTrue s I x (p a)) (markTrue s I y (p a)) w)
 
-      within-keeps : (f : ℕ) (J : Joint) → length J ≡ k → unsetAll (count s) J < f → AllTrue s I p J → (K : Joint) × (K ∈ settleWithin s es f J) × AllTrue s I p K
+      within-keeps : (f : ℕ) (J : Joint) → length J ≡ k → unsetAll (count s) J < f → AllTrue s I p J → (K : Joint) × (K ∈ settleWithin s es f J)
+          × AllTrue s I p K
       within-keeps zero J len b t = absurd (omega arith)
       within-keeps (suc f) J len b t =
           elim (view s es J) [

@@ -3,7 +3,8 @@ use Prim.Native.Nat.{ℕ, zero, suc, _+_, _≤_, _<_}
 use mathlib.Core.Bool.{Bool, true, false, not, _&&_, _||_, true≢false, false≢true, cond}
 use mathlib.Core.Path.{_≡_, refl, sym, _∙_, ap, subst, ap₂}
 use mathlib.Core.Logic.{_↔_, _⊎_, inl, inr, ⊎-elim}
-use mathlib.Core.List.{List, [], _∷_, _++_, List·Memᴰ·head, List·Memᴰ·tail, List·Memᴰ·not-nil, List·Memᴰ·cases-cons, List·Memᴰ·append-cases, List·Memᴰ·eq-of-singleton, Memᴰ·append-left, Memᴰ·append-right, append-assoc, map}
+use mathlib.Core.List.{List, [], _∷_, _++_, List·Memᴰ·head, List·Memᴰ·tail, List·Memᴰ·not-nil, List·Memᴰ·cases-cons, List·Memᴰ·append-cases}
+use mathlib.Core.List.{List·Memᴰ·eq-of-singleton, Memᴰ·append-left, Memᴰ·append-right, append-assoc, map}
 use lib.ListN.{length, getD}
 use lib.Dec.{eqb}
 use borrow.Author.Tests.{eqb-true, eqb-false}
@@ -226,10 +227,12 @@ module _ {A : Type 0} where
       go false k e = there (k e)
 
 module _ {A : Type 0} where
-  pub filter-step : (p : A → Bool) (x : A) (xs : List A) → ((p x ≡ true) × (filter p (x ∷ xs) ≡ x ∷ filter p xs)) ⊎ ((p x ≡ false) × (filter p (x ∷ xs) ≡ filter p xs))
+  pub filter-step : (p : A → Bool) (x : A) (xs : List A) → ((p x ≡ true) × (filter p (x ∷ xs) ≡ x ∷ filter p xs))
+      ⊎ ((p x ≡ false) × (filter p (x ∷ xs) ≡ filter p xs))
   filter-step p x xs = go (p x)
     where
-      go : (b : Bool) → ((b ≡ true) × (elim b as (λ _. List A) [ true ↦ x ∷ filter p xs | false ↦ filter p xs ] ≡ x ∷ filter p xs)) ⊎ ((b ≡ false) × (elim b as (λ _. List A) [ true ↦ x ∷ filter p xs | false ↦ filter p xs ] ≡ filter p xs))
+      go : (b : Bool) → ((b ≡ true) × (elim b as (λ _. List A) [ true ↦ x ∷ filter p xs | false ↦ filter p xs ] ≡ x ∷ filter p xs))
+          ⊎ ((b ≡ false) × (elim b as (λ _. List A) [ true ↦ x ∷ filter p xs | false ↦ filter p xs ] ≡ filter p xs))
       go true = inl (refl, refl)
       go false = inr (refl, refl)
 

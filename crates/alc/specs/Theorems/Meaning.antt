@@ -8,12 +8,14 @@ use lib.Dec.{ltb}
 use borrow.Author.Tests.{ltb-true, ltb-false}
 use native.Mathlib.Omega.{arith}
 use Rattle.alc.specs.Lists.{all, _∈_, upTo, any}
-use Rattle.alc.specs.Sheet.{some, count, top, Line, ClassAssertion, Rule, or, RoleAssertion, bottom, not, only, name, and, line, operandsBelow, Sheet, nameCount, roleCount, lineInLimits, inLimits}
+use Rattle.alc.specs.Sheet.{some, count, top, Line, ClassAssertion, Rule, or, RoleAssertion, bottom, not, only, name, and, line, operandsBelow, Sheet}
+use Rattle.alc.specs.Sheet.{nameCount, roleCount, lineInLimits, inLimits}
 use Rattle.alc.specs.Meaning.{truth, meets, meetsRoles, meetsClasses, meetsRules, Interpretation, value, truthTo}
 use Rattle.alc.specs.Theorems.Lists.{and-right, cases, all-intro, all-elim, upTo-intro, and-left, upTo-elim, any-cong, all-cong, getD-in}
 use Rattle.alc.specs.Theorems.Sheet.{WellFormed, lines-limited, roles-limited}
 
-value-cong : (I : Interpretation) (v w : ℕ → ℕ → Bool) (n : ℕ) (c : Line) (x : ℕ) → operandsBelow n c ≡ true → ((j : ℕ) → j < n → v j ≡ w j) → value I v c x ≡ value I w c x
+value-cong : (I : Interpretation) (v w : ℕ → ℕ → Bool) (n : ℕ) (c : Line) (x : ℕ) → operandsBelow n c ≡ true → ((j : ℕ) → j < n → v j ≡ w j)
+    → value I v c x ≡ value I w c x
 value-cong I v w n top x e h = refl
 value-cong I v w n bottom x e h = refl
 value-cong I v w n (name a) x e h = refl

@@ -10,10 +10,12 @@ use native.Mathlib.Omega.{arith}
 use Rattle.alc.specs.Lists.{_∈_, upTo}
 use Rattle.alc.specs.Sheet.{some, or, and, line, operandsBelow, count, Line, only, Rule, not, name, Sheet, top, bottom}
 use Rattle.alc.specs.Meaning.{meetsRules, value, truth, Interpretation}
-use Rattle.alc.specs.Label.{whenFails, whenHolds, clashes, pushed, Mark, fails, handed, lineOf, blank, isName, demand, sameName, _⊆_, markTrue, either, met, isTop, Label, holds, has, isBottom, clashesAt}
+use Rattle.alc.specs.Label.{whenFails, whenHolds, clashes, pushed, Mark, fails, handed, lineOf, blank, isName, demand, sameName, _⊆_, markTrue, either}
+use Rattle.alc.specs.Label.{met, isTop, Label, holds, has, isBottom, clashesAt}
 use Rattle.alc.specs.Seeds.{asksOf, seedOf, Ask, asks}
 use Rattle.alc.specs.Model.{named}
-use Rattle.alc.specs.Theorems.Lists.{cond-intro, all-false, any-intro, or-false-both, upTo-intro, and-left, and-right, clashing, here, upTo-elim, and-both, or-right, cases, all-intro, or-cases, each-intro, or-left, and-false-left, and-false-right, any-false}
+use Rattle.alc.specs.Theorems.Lists.{cond-intro, all-false, any-intro, or-false-both, upTo-intro, and-left, and-right, clashing, here, upTo-elim}
+use Rattle.alc.specs.Theorems.Lists.{and-both, or-right, cases, all-intro, or-cases, each-intro, or-left, and-false-left, and-false-right, any-false}
 use Rattle.alc.specs.Theorems.Sheet.{WellFormed}
 use Rattle.alc.specs.Theorems.Meaning.{truth-law, operands, rules-intro}
 use Rattle.alc.specs.Theorems.Moves.{addAll-has}
@@ -50,7 +52,8 @@ module _ (s : Sheet) (l : Label) (quiet : clashes s l ≡ false) where
 
   pub no-both : (i : ℕ) → i < count s → has l (holds i) ≡ true → has l (fails i) ≡ true → ⊥
   unfolding clashesAt
-  no-both i h e f = no-clash i h (or-left _ _ (or-right (has l (holds i) && isBottom (line s i) || has l (fails i) && isTop (line s i)) _ (and-both (has l (holds i)) _ e f)))
+  no-both i h e f = no-clash i h (or-left _ _ (or-right (has l (holds i) && isBottom (line s i) || has l (fails i) && isTop (line s i)) _
+      (and-both (has l (holds i)) _ e f)))
 
   no-name : (i j a : ℕ) → i < count s → j < count s → isName a (line s i) ≡ true → line s j ≡ name a → has l (holds i) ≡ true → has l (fails j) ≡ true → ⊥
   unfolding clashesAt
@@ -103,7 +106,8 @@ module _ (s : Sheet) (lab : ℕ → Label) (edge : ℕ → ℕ → ℕ → Bool)
       unfolding True
       handed-on r y m y< b h e = below y y< m b (given r x y x< y< e m h)
 
-      holds-value : has (lab x) (holds i) ≡ true → (c : Line) → line s i ≡ c → operandsBelow i c ≡ true → met (lab x) (whenHolds c) ≡ true → value model (truth s model) c x ≡ true
+      holds-value : has (lab x) (holds i) ≡ true → (c : Line) → line s i ≡ c → operandsBelow i c ≡ true → met (lab x) (whenHolds c) ≡ true
+          → value model (truth s model) c x ≡ true
       unfolding True named
       holds-value e top q b d = refl
       holds-value e bottom q b d = absurd (no-bottom s (lab x) (quiet x x< .clear) i i< q e)
@@ -134,14 +138,16 @@ module _ (s : Sheet) (lab : ℕ → Label) (edge : ℕ → ℕ → ℕ → Bool)
           (λ ey. or-left _ (truth s model j y) (ap flip ey))
           (cases (edge r x y)))
 
-      fails-value : has (lab x) (fails i) ≡ true → (c : Line) → line s i ≡ c → operandsBelow i c ≡ true → met (lab x) (whenFails c) ≡ true → value model (truth s model) c x ≡ false
+      fails-value : has (lab x) (fails i) ≡ true → (c : Line) → line s i ≡ c → operandsBelow i c ≡ true → met (lab x) (whenFails c) ≡ true
+          → value model (truth s model) c x ≡ false
       unfolding True named
       fails-value e top q b d = absurd (no-top s (lab x) (quiet x x< .clear) i i< q e)
       fails-value e bottom q b d = refl
       fails-value e (name a) q b d =
           any-false (λ k. isName a (line s k) && has (lab x) (holds k)) (upTo (count s))
           (λ k m. ⊎-elim
-          (λ t. absurd (no-name s (lab x) (quiet x x< .clear) k i a (upTo-elim (count s) k m) i< (and-left _ (has (lab x) (holds k)) t) q (and-right (isName a (line s k)) _ t) e))
+          (λ t. absurd (no-name s (lab x) (quiet x x< .clear) k i a (upTo-elim (count s) k m) i< (and-left _ (has (lab x) (holds k)) t) q
+          (and-right (isName a (line s k)) _ t) e))
           (λ t. t)
           (cases (isName a (line s k) && has (lab x) (holds k))))
       fails-value e (not j) q b d = ap flip (below x x< (holds j) (ltb-true j i b) (and-left (has (lab x) (holds j)) true d))
@@ -166,7 +172,8 @@ module _ (s : Sheet) (lab : ℕ → Label) (edge : ℕ → ℕ → ℕ → Bool)
           (cases (edge r x y)))
       fails-value e (only r j) q b d =
           let (y, y<, ey, t) = witness r (fails j) (ltb-true j i b) (asks-in _ (rw q (cond-intro (has (lab x) (fails i)) e))) in
-          all-false (λ y. flip (edge r x y) || truth s model j y) (upTo size) (upTo-intro size y y<) (or-false-both (flip (edge r x y)) _ (ap flip ey) (not-true _ t))
+          all-false (λ y. flip (edge r x y) || truth s model j y) (upTo size) (upTo-intro size y y<)
+          (or-false-both (flip (edge r x y)) _ (ap flip ey) (not-true _ t))
 
     -- Theorem B: every mark of every label is true
     truth-below : (n : ℕ) → n ≤ count s → True n

@@ -3,7 +3,8 @@ use Prim.Native.Nat.{ℕ, suc, _<_}
 use mathlib.Core.Bool.{true, false}
 use mathlib.Core.Path.{_≡_, sym, subst}
 use mathlib.Core.Logic.{_⊎_, inl, inr, ⊎-elim}
-use mathlib.Core.List.{List, [], _∷_, map, List·Memᴰ·head, List·Memᴰ·not-nil, List·Memᴰ·cases-cons, List·Memᴰ·append-cases, Memᴰ·append-left, Memᴰ·append-right, Memᴰ·map, Memᴰ·of-map}
+use mathlib.Core.List.{List, [], _∷_, map, List·Memᴰ·head, List·Memᴰ·not-nil, List·Memᴰ·cases-cons, List·Memᴰ·append-cases, Memᴰ·append-left}
+use mathlib.Core.List.{Memᴰ·append-right, Memᴰ·map, Memᴰ·of-map}
 use lib.ListN.{length}
 use lib.Seq.{getD-set-same, getD-set-other, set-out}
 use lib.Dec.{ltb}
@@ -49,7 +50,8 @@ label-mark J a ms h = getD-set-same J a (addAll (label J a) ms) blank h
 pub label-mark-other : (J : Joint) (a b : ℕ) (ms : List Mark) → (b ≡ a → ⊥) → label (markAt J a ms) b ≡ label J b
 label-mark-other J a b ms h = getD-set-other J a b (addAll (label J a) ms) blank h
 
-pub mark-cases : (J : Joint) (a : ℕ) (ms : List Mark) (b : ℕ) (m : Mark) → has (label (markAt J a ms) b) m ≡ true → ((b ≡ a) × (m ∈ ms)) ⊎ (has (label J b) m ≡ true)
+pub mark-cases : (J : Joint) (a : ℕ) (ms : List Mark) (b : ℕ) (m : Mark) → has (label (markAt J a ms) b) m ≡ true → ((b ≡ a) × (m ∈ ms))
+    ⊎ (has (label J b) m ≡ true)
 mark-cases J a ms b m e = ⊎-elim at-a elsewhere (same? b a)
   where
     elsewhere : (b ≡ a → ⊥) → ((b ≡ a) × (m ∈ ms)) ⊎ (has (label J b) m ≡ true)

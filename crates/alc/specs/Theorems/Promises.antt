@@ -13,14 +13,16 @@ use native.Mathlib.Omega.{arith}
 use Rattle.alc.specs.Sheet.{Sheet, count, wellFormed, inLimits}
 use Rattle.alc.specs.Bytes.{Read, refused, taken, readSheet}
 use Rattle.alc.specs.Seeds.{bound}
-use Rattle.alc.specs.Model.{Answer, satisfyAnswer, TenMeans}
+use Rattle.alc.specs.Model.{Finding, satisfyAnswer, TenMeans}
 use Rattle.alc.specs.Causes.{causesAnswer}
-use Rattle.alc.specs.Replies.{Reply, mostRecords, untouched, cleared, finished, checked, satisfyRead, causesRead, satisfyReply, causesReply, Balance, faulty, balanceRead, balanceReply}
+use Rattle.alc.specs.Replies.{Reply, mostRecords, untouched, cleared, finished, checked, satisfyRead, causesRead, satisfyReply, causesReply, Balance}
+use Rattle.alc.specs.Replies.{faulty, balanceRead, balanceReply}
 use Rattle.alc.specs.Promises.{LentWell, Refusals, ZerosBehind, SatisfyMeans, SatisfyPromise, CauseList, CausesMeans, CausesPromise, BalancePromise}
 use Rattle.alc.specs.Theorems.Lists.{cases, or-cases, or-false-left, or-false-right, and-left, and-right, and-both, clashing}
 use Rattle.alc.specs.Theorems.Sheet.{WellFormed, well-formed}
 use Rattle.alc.specs.Theorems.Causes.{listed-is}
-use Rattle.alc.specs.Theorems.Answers.{thirteen-is, thirteen-never, twelve-only, three-only, listed-ascending, causes-fourteen, causes-thirteen, causes-never, two-only}
+use Rattle.alc.specs.Theorems.Answers.{thirteen-is, thirteen-never, twelve-only, three-only, listed-ascending, causes-fourteen, causes-thirteen}
+use Rattle.alc.specs.Theorems.Answers.{causes-never, two-only}
 use Rattle.alc.specs.Theorems.Bytes.{accepted-is, refused-range}
 use Rattle.alc.specs.Theorems.Words.{ten-model}
 
@@ -45,12 +47,12 @@ module _ (rs ms os : List ℕ) where
       (cases (ltb mostRecords (length rs) || ltb (length ms) (length rs)))
 
   -- ---- a result where it fits its buffer, where it does not, and none
-  pub data Finished (n : ℕ) (r : Answer) : Type 0 where
+  pub data Finished (n : ℕ) (r : Finding) : Type 0 where
     fits : r .number ≡ n → length (r .out) ≤ length os → finished rs ms os n r ≡ cleared rs ms os n (length (r .out)) (r .out) → Finished n r
     long : r .number ≡ n → length os < length (r .out) → finished rs ms os n r ≡ cleared rs ms os (suc n) (length (r .out)) [] → Finished n r
     none : (r .number ≡ n → ⊥) → finished rs ms os n r ≡ cleared rs ms os (r .number) 0 [] → Finished n r
 
-  pub finished-cases : (n : ℕ) (r : Answer) → Finished n r
+  pub finished-cases : (n : ℕ) (r : Finding) → Finished n r
   finished-cases n r =
       ⊎-elim
       (λ (e : eqb (r .number) n ≡ true). ⊎-elim
@@ -72,7 +74,7 @@ module _ (rs ms os : List ℕ) where
         behind ∙ ap (λ (n : ℕ). replicate n 0) (sym (ap length behind ∙ length-replicate {A = ℕ} (length os - length ws) 0)),
       )
 
-  module _ (n : ℕ) (r : Answer) where
+  module _ (n : ℕ) (r : Finding) where
     -- the numbers that are neither n nor the next are the answer's own
     own-number : (k : ℕ) → (k ≡ n → ⊥) → (k ≡ suc n → ⊥) → (finished rs ms os n r .number ≡ k) ↔ (r .number ≡ k)
     own-number k a b =
@@ -110,7 +112,8 @@ module _ (rs ms os : List ℕ) where
 
     -- it is one of three numbers, and records and marks are zero
     finished-late : 9 < n → 9 < r .number
-        → (9 < finished rs ms os n r .number) × (finished rs ms os n r .records ≡ replicate (length rs) 0) × (finished rs ms os n r .marks ≡ replicate (length ms) 0)
+        → (9 < finished rs ms os n r .number) × (finished rs ms os n r .records ≡ replicate (length rs) 0)
+        × (finished rs ms os n r .marks ≡ replicate (length ms) 0)
     finished-late a b =
         elim (finished-cases n r) [
           | fits e f q ↦ rw q (a, refl, refl)
@@ -159,7 +162,7 @@ module _ (bs rs ms os : List ℕ) where
     zeroed = b .zeroed;
   }
 
-  finished-beyond : (n : ℕ) (r : Answer) → 9 < n → 9 < r .number → Beyond (finished rs ms os n r)
+  finished-beyond : (n : ℕ) (r : Finding) → 9 < n → 9 < r .number → Beyond (finished rs ms os n r)
   finished-beyond n r a b =
       let (late, z, m) = finished-late rs ms os n r a b in
       record { late = omega arith; alone = λ h. absurd (omega arith); zeroed = λ h. (z, m) }
@@ -172,7 +175,7 @@ answer-late : (s : Sheet) (room : ℕ) → 9 < satisfyAnswer s room .number
 answer-late s room = ⊎-elim (λ h. ⊎-elim (λ e. omega arith) (λ e. omega arith) h) (λ e. omega arith) (three-only s room)
 
 module _ (bs rs ms os : List ℕ) (s : Sheet) (p : ℕ) (r : readSheet bs ≡ taken s p) where
-  abbrev verdict : Answer
+  abbrev verdict : Finding
   verdict = satisfyAnswer s (length rs)
 
   abbrev given : Reply
@@ -188,15 +191,22 @@ module _ (bs rs ms os : List ℕ) (s : Sheet) (p : ℕ) (r : readSheet bs ≡ ta
   satisfy-means = record {
     ten = λ h.
         let (e, f, q) = when-fits rs ms os 10 verdict h in
-        subst (λ (o : Reply). TenMeans s (take (o .carries) (o .out)) × ZerosBehind os o) (sym q)
-        (rw (take-at (verdict .out) (replicate (length os - length (verdict .out)) 0) (length (verdict .out)) refl) (words-mean e), zeros-behind rs ms os 10 (verdict .out) f);
+        subst (λ (o : Reply). TenMeans s (take (o .carries) (o .out)) × ZerosBehind os o) (sym q) (
+          rw (take-at (verdict .out) (replicate (length os - length (verdict .out)) 0) (length (verdict .out)) refl) (words-mean e),
+          zeros-behind rs ms os 10
+              (verdict .out) f,
+        );
     eleven = λ h.
         let (e, f, q) = when-long rs ms os 10 verdict not-eleven h in
         (verdict .out, words-mean e, ap (λ (o : Reply). o .carries) q, f, ap (λ (o : Reply). o .out) q ∙ zeros-alone rs ms os 11 (length (verdict .out)));
     twelve = λ h.
         let (wf, lim) = well-read bs s p r in
-        let q = when-none rs ms os 10 verdict 12 (λ e. omega arith) (λ e. omega arith) h in
-        (twelve-only s (length rs) (well-formed s wf) (own-number rs ms os 10 verdict 12 (λ e. omega arith) (λ e. omega arith) .0 h), ap (λ (o : Reply). o .carries) q, ap (λ (o : Reply). o .out) q ∙ zeros-alone rs ms os 12 0);
+        let q = when-none rs ms os 10 verdict 12 (λ e. omega arith) (λ e. omega arith) h in (
+          twelve-only s (length rs) (well-formed s wf) (own-number rs ms os 10 verdict 12 (λ e. omega arith) (λ e. omega arith) .0 h),
+          ap
+              (λ (o : Reply). o .carries) q,
+          ap (λ (o : Reply). o .out) q ∙ zeros-alone rs ms os 12 0,
+        );
     thirteen = (λ h. thirteen-is s (length rs) .0 (thirteen-own .0 h), λ h. thirteen-own .1 (thirteen-is s (length rs) .1 h));
     thirteen-alone = λ h.
         let q = when-none rs ms os 10 verdict 13 (λ e. omega arith) (λ e. omega arith) h in
@@ -213,7 +223,8 @@ module _ (bs rs ms os : List ℕ) (s : Sheet) (p : ℕ) (r : readSheet bs ≡ ta
           elim (finished-cases rs ms os 10 verdict) [
             | fits e f q ↦ inl (inl (inl (ap (λ (o : Reply). o .number) q)))
             | long e f q ↦ inl (inl (inr (ap (λ (o : Reply). o .number) q)))
-            | none e q ↦ ⊎-elim (λ h. ⊎-elim (λ f. absurd (e f)) (λ f. inl (inr (ap (λ (o : Reply). o .number) q ∙ f))) h) (λ f. inr (ap (λ (o : Reply). o .number) q ∙ f)) (three-only s (length rs))
+            | none e q ↦ ⊎-elim (λ h. ⊎-elim (λ f. absurd (e f)) (λ f. inl (inr (ap (λ (o : Reply). o .number) q ∙ f))) h)
+                (λ f. inr (ap (λ (o : Reply). o .number) q ∙ f)) (three-only s (length rs))
           ]
 
 module _ (bs rs ms os : List ℕ) where
@@ -244,7 +255,7 @@ module _ (bs rs ms os : List ℕ) where
 
 -- ---- demand 3
 module _ (bs rs ms os : List ℕ) (s : Sheet) (p : ℕ) (r : readSheet bs ≡ taken s p) (port class : ℕ) (p< : port < s .individuals) (c< : class < count s) where
-  abbrev causes : Answer
+  abbrev causes : Finding
   causes = causesAnswer s port class (length rs)
 
   abbrev shown : Reply
@@ -261,15 +272,22 @@ module _ (bs rs ms os : List ℕ) (s : Sheet) (p : ℕ) (r : readSheet bs ≡ ta
 
   causes-means : CausesMeans s port class (length rs) os shown
   causes-means = record {
-    thirteen = (λ h. causes-thirteen s port class (length rs) wf p< c< .0 (thirteen-own .0 h), λ h. thirteen-own .1 (causes-thirteen s port class (length rs) wf p< c< .1 h));
+    thirteen = (
+      λ h. causes-thirteen s port class (length rs) wf p< c< .0 (thirteen-own .0 h),
+      λ h. thirteen-own .1
+          (causes-thirteen s port class (length rs) wf p< c< .1 h),
+    );
     thirteen-alone = λ h.
         let q = when-none rs ms os 14 causes 13 (λ e. omega arith) (λ e. omega arith) h in
         (ap (λ (o : Reply). o .carries) q, ap (λ (o : Reply). o .out) q ∙ zeros-alone rs ms os 13 0);
     never-thirteen = λ b h. causes-never s wf port class (length rs) p< c< b (thirteen-own .0 h);
     fourteen = λ h.
         let (e, f, q) = when-fits rs ms os 14 causes h in
-        subst (λ (o : Reply). CauseList s port class (take (o .carries) (o .out)) × ZerosBehind os o) (sym q)
-        (rw (take-at (causes .out) (replicate (length os - length (causes .out)) 0) (length (causes .out)) refl) (list-means e), zeros-behind rs ms os 14 (causes .out) f);
+        subst (λ (o : Reply). CauseList s port class (take (o .carries) (o .out)) × ZerosBehind os o) (sym q) (
+          rw (take-at (causes .out) (replicate (length os - length (causes .out)) 0) (length (causes .out)) refl) (list-means e),
+          zeros-behind rs ms os 14
+              (causes .out) f,
+        );
     fifteen = λ h.
         let (e, f, q) = when-long rs ms os 14 causes not-fifteen h in
         (causes .out, list-means e, ap (λ (o : Reply). o .carries) q, f, ap (λ (o : Reply). o .out) q ∙ zeros-alone rs ms os 15 (length (causes .out)));
@@ -294,7 +312,8 @@ module _ (bs : List ℕ) (port class : ℕ) (rs ms os : List ℕ) where
   -- 8, or what the sheet and the query give
   query-cases : (s : Sheet) (p : ℕ)
       → (((port < s .individuals) × (class < count s) → ⊥) × (causesRead rs ms os port class (taken s p) ≡ untouched rs ms os 8 0))
-      ⊎ ((port < s .individuals) × (class < count s) × (causesRead rs ms os port class (taken s p) ≡ finished rs ms os 14 (causesAnswer s port class (length rs))))
+      ⊎ ((port < s .individuals) × (class < count s) × (causesRead rs ms os port class (taken s p) ≡ finished rs ms os 14
+      (causesAnswer s port class (length rs))))
   query-cases s p =
       ⊎-elim
       (λ (e : (ltb port (s .individuals) && ltb class (count s)) ≡ true). inr (
@@ -303,7 +322,8 @@ module _ (bs : List ℕ) (port class : ℕ) (rs ms os : List ℕ) where
         rw (e, causesRead),
       ))
       (λ (e : (ltb port (s .individuals) && ltb class (count s)) ≡ false). inl (
-        (λ (a, b). clashing (ltb port (s .individuals) && ltb class (count s)) (and-both (ltb port (s .individuals)) _ (lt-ltb port (s .individuals) a) (lt-ltb class (count s) b)) e),
+        (λ (a, b). clashing (ltb port (s .individuals) && ltb class (count s))
+            (and-both (ltb port (s .individuals)) _ (lt-ltb port (s .individuals) a) (lt-ltb class (count s) b)) e),
         rw (e, causesRead),
       ))
       (cases (ltb port (s .individuals) && ltb class (count s)))
@@ -311,8 +331,10 @@ module _ (bs : List ℕ) (port class : ℕ) (rs ms os : List ℕ) where
   query-beyond : (s : Sheet) (p : ℕ) → Beyond bs rs ms os (causesRead rs ms os port class (taken s p))
   query-beyond s p =
       ⊎-elim
-      (λ (_, e). subst (λ (o : Reply). Beyond bs rs ms os o) (sym e) (record { late = omega arith; alone = λ h. (refl, refl, refl); zeroed = λ h. absurd (omega arith) }))
-      (λ (_, _, e). subst (λ (o : Reply). Beyond bs rs ms os o) (sym e) (finished-beyond bs rs ms os 14 (causesAnswer s port class (length rs)) (omega arith) (causes-late s port class (length rs))))
+      (λ (_, e). subst (λ (o : Reply). Beyond bs rs ms os o) (sym e)
+      (record { late = omega arith; alone = λ h. (refl, refl, refl); zeroed = λ h. absurd (omega arith) }))
+      (λ (_, _, e). subst (λ (o : Reply). Beyond bs rs ms os o) (sym e)
+      (finished-beyond bs rs ms os 14 (causesAnswer s port class (length rs)) (omega arith) (causes-late s port class (length rs))))
       (query-cases s p)
 
   query-read : (x : Read Sheet) → readSheet bs ≡ x → LentWell rs ms → Outcome bs rs ms os (causesRead rs ms os port class x)
@@ -320,17 +342,21 @@ module _ (bs : List ℕ) (port class : ℕ) (rs ms os : List ℕ) where
   query-read (taken s p) e lent = beyond lent s p e (query-beyond s p)
 
   -- where the buffers are in order and the sheet is read
-  causes-reply : LentWell rs ms → (s : Sheet) (p : ℕ) → readSheet bs ≡ taken s p → causesReply bs port class rs ms os ≡ causesRead rs ms os port class (taken s p)
+  causes-reply : LentWell rs ms → (s : Sheet) (p : ℕ) → readSheet bs ≡ taken s p
+      → causesReply bs port class rs ms os ≡ causesRead rs ms os port class (taken s p)
   unfolding causesReply
   causes-reply lent s p r =
-      ⊎-elim (λ (bad, e). absurd (bad lent)) (λ (_, e). e ∙ ap (causesRead rs ms os port class) r) (checked-cases rs ms os (causesRead rs ms os port class (readSheet bs)))
+      ⊎-elim (λ (bad, e). absurd (bad lent)) (λ (_, e). e ∙ ap (causesRead rs ms os port class) r)
+      (checked-cases rs ms os (causesRead rs ms os port class (readSheet bs)))
 
-  eight-is : (s : Sheet) (p : ℕ) → ((causesRead rs ms os port class (taken s p) .number ≡ 8) × (causesRead rs ms os port class (taken s p) .carries ≡ 0)) ↔ ((port < s .individuals) × (class < count s) → ⊥)
+  eight-is : (s : Sheet) (p : ℕ) → ((causesRead rs ms os port class (taken s p) .number ≡ 8) × (causesRead rs ms os port class (taken s p) .carries ≡ 0))
+      ↔ ((port < s .individuals) × (class < count s) → ⊥)
   eight-is s p =
       ⊎-elim
       (λ (off, e). ((λ h. off), λ h. (ap (λ (o : Reply). o .number) e, ap (λ (o : Reply). o .carries) e)))
       (λ (a, b, e). (
-        (λ h. absurd (let (late, _, _) = finished-late rs ms os 14 (causesAnswer s port class (length rs)) (omega arith) (causes-late s port class (length rs)) in omega (arith, ap (λ (o : Reply). o .number) e, h .0))),
+        (λ h. absurd (let (late, _, _) = finished-late rs ms os 14 (causesAnswer s port class (length rs)) (omega arith)
+            (causes-late s port class (length rs)) in omega (arith, ap (λ (o : Reply). o .number) e, h .0))),
         λ h. absurd (h (a, b)),
       ))
       (query-cases s p)
@@ -344,7 +370,8 @@ module _ (bs : List ℕ) (port class : ℕ) (rs ms os : List ℕ) where
         (λ (lent, e). subst (λ (o : Reply). Refusals bs rs ms os o) (sym e) (refusals-of bs rs ms os _ (query-read (readSheet bs) refl lent)))
         (checked-cases rs ms os (causesRead rs ms os port class (readSheet bs)));
     eight = λ lent s p r.
-        subst (λ (o : Reply). ((o .number ≡ 8) × (o .carries ≡ 0)) ↔ ((port < s .individuals) × (class < count s) → ⊥)) (sym (causes-reply lent s p r)) (eight-is s p);
+        subst (λ (o : Reply). ((o .number ≡ 8) × (o .carries ≡ 0)) ↔ ((port < s .individuals) × (class < count s) → ⊥)) (sym (causes-reply lent s p r))
+        (eight-is s p);
     means = λ lent s p r p< c<.
         subst (λ (o : Reply). CausesMeans s port class (length rs) os o) (sym (causes-reply lent s p r))
         (⊎-elim
@@ -370,7 +397,11 @@ module _ (bs : List ℕ) (room : ℕ) where
       (cases (ltb mostRecords room))
 
   faults-are : (x : Read Sheet) (n p : ℕ) → (balanceRead room x ≡ faulty n p) ↔ (x ≡ refused n p)
-  faults-are (refused m q) n p = ((λ e. let a : m ≡ n = cc in let b : q ≡ p = cc in λ i. refused (a i) (b i)), λ e. let a : m ≡ n = cc in let b : q ≡ p = cc in λ i. faulty (a i) (b i))
+  faults-are (refused m q) n p = (
+    (λ e. let a : m ≡ n = cc in let b : q ≡ p = cc in λ i. refused (a i) (b i)),
+    λ e. let a : m ≡ n = cc in let b : q ≡ p = cc in
+        λ i. faulty (a i) (b i),
+  )
   faults-are (taken s q) n p = ((λ e. absurd (let z : _≡_ {A = ℕ} 0 1 = cc in omega arith)), λ e. absurd (let z : _≡_ {A = ℕ} 0 1 = cc in omega arith))
 
   -- no fault of the sheet is numbered 7

@@ -3,7 +3,8 @@ use Prim.Native.Nat.{ℕ, zero, suc, _+_, _≤_, _<_}
 use mathlib.Core.Bool.{true, false}
 use mathlib.Core.Path.{_≡_, refl, sym, _∙_, ap, subst}
 use mathlib.Core.Logic.{_⊎_, inl, inr, ⊎-elim}
-use mathlib.Core.List.{List, [], _∷_, _++_, append-nil, append-assoc, Memᴰ·append-left, Memᴰ·append-right, List·Memᴰ·append-cases, List·Memᴰ·eq-of-singleton, List·Memᴰ·cases-cons, List·Memᴰ·not-nil, Memᴰ·of-map, Memᴰ·cast}
+use mathlib.Core.List.{List, [], _∷_, _++_, append-nil, append-assoc, Memᴰ·append-left, Memᴰ·append-right, List·Memᴰ·append-cases, List·Memᴰ·eq-of-singleton}
+use mathlib.Core.List.{List·Memᴰ·cases-cons, List·Memᴰ·not-nil, Memᴰ·of-map, Memᴰ·cast}
 use lib.ListN.{length, List·getD-append}
 use lib.Dec.{ltb}
 use borrow.Author.Tests.{ltb-true, ltb-false}
@@ -12,14 +13,14 @@ use Rattle.alc.specs.Lists.{_∈_, Distinct}
 use Rattle.alc.specs.Sheet.{Sheet}
 use Rattle.alc.specs.Label.{blank, Label}
 use Rattle.alc.specs.Settle.{label}
-use Rattle.alc.specs.Seeds.{seeds, bound, asks, reach, successors, Ask, includeAll, include, expansions, among}
+use Rattle.alc.specs.Seeds.{seeds, bound, asks, reach, successors, Ask, includeAll, include, expansions, among, universe}
 use Rattle.alc.specs.Theorems.Lists.{cases, clashing, each-elim, same?, here, there, each-intro}
 use Rattle.alc.specs.Theorems.Counting.{distinct-snoc, pigeon}
 use Rattle.alc.specs.Theorems.Moves.{label-of, label-in}
 use Rattle.alc.specs.Theorems.Seeds.{seeds-in, among-in, among-true}
 use Rattle.alc.specs.Theorems.Expand.{expand-finds}
 use Rattle.alc.specs.Theorems.Survive.{Closed}
-use Rattle.alc.specs.Theorems.Bound.{length-universe, seed-in-universe, universe}
+use Rattle.alc.specs.Theorems.Bound.{length-universe, seed-in-universe}
 
 -- C has all that is after what it has
 abbrev pub ClosedBy : (Label → List Label) → List Label → Type 0
@@ -45,7 +46,8 @@ include-all P C k h p l i =
     (λ t. ⊎-elim (λ m. h l m) (λ m. subst P (sym (List·Memᴰ·eq-of-singleton m)) p) (List·Memᴰ·append-cases C (rw (t .1) at i)))
     (include-step C k)
 
-pub includeAll-all : (P : Label → Type 0) (C ls : List Label) → ((l : Label) → l ∈ C → P l) → ((l : Label) → l ∈ ls → P l) → (l : Label) → l ∈ includeAll C ls → P l
+pub includeAll-all : (P : Label → Type 0) (C ls : List Label) → ((l : Label) → l ∈ C → P l) → ((l : Label) → l ∈ ls → P l) → (l : Label) → l ∈ includeAll C ls
+    → P l
 includeAll-all P C [] h p = h
 includeAll-all P C (k ∷ ls) h p = includeAll-all P (include C k) ls (include-all P C k h (p k here)) (λ l i. p l (there i))
 
@@ -55,30 +57,31 @@ reach-all P after h zero i C p = p
 reach-all P after h (suc f) i C p =
     ⊎-elim
     (λ (e : ltb i (length C) ≡ true). rw (e, reach)
-    (reach-all P after h f (suc i) (includeAll C (after (label C i))) (includeAll-all P C (after (label C i)) p (h (label C i) (p (label C i) (label-in C i (ltb-true i (length C) e)))))))
+    (reach-all P after h f (suc i) (includeAll C (after (label C i)))
+    (includeAll-all P C (after (label C i)) p (h (label C i) (p (label C i) (label-in C i (ltb-true i (length C) e)))))))
     (λ (e : ltb i (length C) ≡ false). rw (e, reach) p)
     (cases (ltb i (length C)))
 
 -- D is C with more behind it; each once; and from the universe
-pub record Grown (s : Sheet) (C D : List Label) : Type 0 where
+pub record Grows (s : Sheet) (C D : List Label) : Type 0 where
   pub rest : List Label
   pub is : D ≡ C ++ rest
   pub distinct : Distinct D
   pub known : (l : Label) → l ∈ D → l ∈ universe s
 
-pub grown-in : (s : Sheet) (C D : List Label) → Grown s C D → (l : Label) → l ∈ C → l ∈ D
+pub grown-in : (s : Sheet) (C D : List Label) → Grows s C D → (l : Label) → l ∈ C → l ∈ D
 grown-in s C D g l h = rw (g .is) (Memᴰ·append-left (g .rest) h)
 
-pub grown-at : (s : Sheet) (C D : List Label) → Grown s C D → (i : ℕ) → i < length C → label D i ≡ label C i
+pub grown-at : (s : Sheet) (C D : List Label) → Grows s C D → (i : ℕ) → i < length C → label D i ≡ label C i
 grown-at s C D g i h = rw (g .is) (List·getD-append C (g .rest) blank i h)
 
-pub grown-bound : (s : Sheet) (C D : List Label) → Grown s C D → length D ≤ bound s
+pub grown-bound : (s : Sheet) (C D : List Label) → Grows s C D → length D ≤ bound s
 grown-bound s C D g = omega (arith, pigeon D (universe s) (g .distinct) (g .known), length-universe s)
 
-pub grown-refl : (s : Sheet) (C : List Label) → Distinct C → ((l : Label) → l ∈ C → l ∈ universe s) → Grown s C C
+pub grown-refl : (s : Sheet) (C : List Label) → Distinct C → ((l : Label) → l ∈ C → l ∈ universe s) → Grows s C C
 grown-refl s C d k = record { rest = []; is = sym (append-nil C); distinct = d; known = k }
 
-pub grown-trans : (s : Sheet) (C D E : List Label) → Grown s C D → Grown s D E → Grown s C E
+pub grown-trans : (s : Sheet) (C D E : List Label) → Grows s C D → Grows s D E → Grows s C E
 grown-trans s C D E g h = record {
   rest = g .rest ++ h .rest;
   is = h .is ∙ ap (λ (x : List Label). x ++ h .rest) (g .is) ∙ append-assoc C (g .rest) (h .rest);
@@ -87,7 +90,7 @@ grown-trans s C D E g h = record {
 }
 
 module _ (s : Sheet) where
-  include-grown : (C : List Label) (l : Label) → Grown s C C → l ∈ universe s → Grown s C (include C l) × (l ∈ include C l)
+  include-grown : (C : List Label) (l : Label) → Grows s C C → l ∈ universe s → Grows s C (include C l) × (l ∈ include C l)
   include-grown C l g u =
       ⊎-elim
       (λ t. rw (t .1) (g, t .0))
@@ -102,10 +105,11 @@ module _ (s : Sheet) where
       ))
       (include-step C l)
 
-  pub again : (C D : List Label) → Grown s C D → Grown s D D
+  pub again : (C D : List Label) → Grows s C D → Grows s D D
   again C D g = grown-refl s D (g .distinct) (g .known)
 
-  pub includeAll-grown : (C ls : List Label) → Grown s C C → ((l : Label) → l ∈ ls → l ∈ universe s) → Grown s C (includeAll C ls) × ((l : Label) → l ∈ ls → l ∈ includeAll C ls)
+  pub includeAll-grown : (C ls : List Label) → Grows s C C → ((l : Label) → l ∈ ls → l ∈ universe s) → Grows s C (includeAll C ls)
+      × ((l : Label) → l ∈ ls → l ∈ includeAll C ls)
   includeAll-grown C [] g u = (g, λ l i. absurd (List·Memᴰ·not-nil i))
   includeAll-grown C (k ∷ ls) g u =
       let (g₁, k-in) = include-grown C k g (u k here) in
@@ -140,7 +144,8 @@ module _ (s : Sheet) where
         let (j, j<, e) = label-of C l l-in in
         d j (omega arith) j< q (rw e q-in)
 
-    pub reach-closed : (f i : ℕ) (C : List Label) → Grown s C C → Done i C → bound s ≤ i + f → Grown s C (reach after f i C) × ClosedBy after (reach after f i C)
+    pub reach-closed : (f i : ℕ) (C : List Label) → Grows s C C → Done i C → bound s ≤ i + f → Grows s C (reach after f i C)
+        × ClosedBy after (reach after f i C)
     reach-closed zero i C g d b = (g, done-closed i C (omega (arith, grown-bound s C C g)) d)
     reach-closed (suc f) i C g d b =
         ⊎-elim

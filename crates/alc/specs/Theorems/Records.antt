@@ -10,7 +10,7 @@ use Rattle.alc.specs.Lists.{all, _∈_, Distinct, each, just}
 use Rattle.alc.specs.Sheet.{Sheet}
 use Rattle.alc.specs.Label.{Label, clashes}
 use Rattle.alc.specs.Settle.{Joint}
-use Rattle.alc.specs.Seeds.{SeedSatisfiable, seedSurvives, seeds, bound, fine, asks, successors, Ask, includeAll, expansions}
+use Rattle.alc.specs.Seeds.{SeedSatisfiable, seedSurvives, seeds, bound, fine, asks, successors, Ask, includeAll, expansions, universe}
 use Rattle.alc.specs.Judge.{start, Entry, later, Reached, at-once, settledJoints, recordsNeeded, considered, firstFine, AllSatisfiable}
 use Rattle.alc.specs.Model.{chosen, modelSeeds}
 use Rattle.alc.specs.Theorems.Lists.{each-elim, upToFirst-in, upToFirst-is, upToFirst-found, each-intro, any-none, all-elim, all-intro, cases, clashing}
@@ -18,8 +18,9 @@ use Rattle.alc.specs.Theorems.Sheet.{WellFormed}
 use Rattle.alc.specs.Theorems.Settle.{settle-finds}
 use Rattle.alc.specs.Theorems.Seeds.{seeds-in}
 use Rattle.alc.specs.Theorems.Expand.{expand-finds}
-use Rattle.alc.specs.Theorems.Bound.{universe, seed-in-universe}
-use Rattle.alc.specs.Theorems.Reach.{successors-known, grown-in, again, ClosedBy, grown-bound, includeAll-all, reach-closed, Grown, reach-all, closed-by-successors, includeAll-grown}
+use Rattle.alc.specs.Theorems.Bound.{seed-in-universe}
+use Rattle.alc.specs.Theorems.Reach.{successors-known, grown-in, again, ClosedBy, grown-bound, includeAll-all, reach-closed, Grows, reach-all}
+use Rattle.alc.specs.Theorems.Reach.{closed-by-successors, includeAll-grown}
 use Rattle.alc.specs.Theorems.Decides.{seeds-known, nothing-yet, seed-test, chosen-next}
 
 module _ (s : Sheet) (xs : List Entry) where
@@ -31,14 +32,16 @@ module _ (s : Sheet) (xs : List Entry) where
   abbrev begun : List Label
   begun = includeAll [] (each (each (seeds s)) (considered s xs))
 
-  facts : Grown s begun (recordsNeeded s xs) × ClosedBy (successors s) (recordsNeeded s xs) × ((q : Label) → q ∈ each (each (seeds s)) (considered s xs) → q ∈ begun)
+  facts : Grows s begun (recordsNeeded s xs) × ClosedBy (successors s) (recordsNeeded s xs)
+      × ((q : Label) → q ∈ each (each (seeds s)) (considered s xs) → q ∈ begun)
   unfolding recordsNeeded
   facts =
       let (g, all-in) = includeAll-grown s [] (each (each (seeds s)) (considered s xs)) (nothing-yet s) (λ q h.
       let (J, J-in, i) = each-elim (each (seeds s)) (considered s xs) h in
       let (l, l-in, k) = each-elim (seeds s) J i in
       seeds-known s l q (settled-clear J (upToFirst-in (all (fine s)) (settledJoints s xs) J J-in) l l-in) k) in
-      let (g₁, cl) = reach-closed s (successors s) (successors-known s) (bound s) 0 begun (again s [] begun g) (λ j j< j<C q i. absurd (omega arith)) (omega arith) in
+      let (g₁, cl) = reach-closed s (successors s) (successors-known s) (bound s) 0 begun (again s [] begun g) (λ j j< j<C q i. absurd (omega arith))
+      (omega arith) in
       (g₁, cl, all-in)
 
   pub records-bound : length (recordsNeeded s xs) ≤ bound s
@@ -64,7 +67,8 @@ module _ (s : Sheet) (xs : List Entry) where
 
   reached-all : (l : Label) → Reached s (considered s xs) l → l ∈ recordsNeeded s xs
   reached-all l (at-once J J-in k k-in q q-in e) =
-      Memᴰ·cast e (grown-in s begun (recordsNeeded s xs) (facts .0) (q .seed) (facts .2 (q .seed) (each-intro (each (seeds s)) (considered s xs) J-in (each-intro (seeds s) J k-in (seeds-in s k q q-in)))))
+      Memᴰ·cast e (grown-in s begun (recordsNeeded s xs) (facts .0) (q .seed)
+      (facts .2 (q .seed) (each-intro (each (seeds s)) (considered s xs) J-in (each-intro (seeds s) J k-in (seeds-in s k q q-in)))))
   reached-all l (later m r k k-in q q-in e) = Memᴰ·cast e (closed-by-successors s (recordsNeeded s xs) (facts .1) m (reached-all m r) k k-in q q-in)
 
   pub records-are : (l : Label) → (l ∈ recordsNeeded s xs) ↔ Reached s (considered s xs) l

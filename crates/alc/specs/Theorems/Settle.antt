@@ -17,7 +17,8 @@ use Rattle.alc.specs.Theorems.Lists.{cases, each-elim, all-fails, same?,
 use Rattle.alc.specs.Theorems.Sheet.{WellFormed}
 use Rattle.alc.specs.Theorems.Meaning.{operands}
 use Rattle.alc.specs.Theorems.Moves.{label-mark, Listed, addAll-keeps, label-mark-other}
-use Rattle.alc.specs.Theorems.Steps.{unsetAll-bound, handed-below, holds-below, none-below, mark-less, fails-below, is-step, unsetAll, view, is-settled, DemandBelow, below-mono, is-clashed, Settled}
+use Rattle.alc.specs.Theorems.Steps.{unsetAll-bound, handed-below, holds-below, none-below, mark-less, fails-below, is-step, unsetAll, view, is-settled}
+use Rattle.alc.specs.Theorems.Steps.{DemandBelow, below-mono, is-clashed, Settled}
 
 -- the role assertions name individuals that the joint label has
 abbrev pub Fits : List RoleAssertion → ℕ → Type 0
@@ -43,9 +44,11 @@ module _ (s : Sheet) (wf : WellFormed s) (es : List RoleAssertion) where
   pub wanted-below : (J : Joint) (k : ℕ) (m : Move) → Listed s es k m → DemandBelow (count s) (wanted s J m)
   unfolding pushed
   wanted-below J k (own a (holds i)) h =
-      if-has-below (count s) (has (label J a) (holds i)) (demand s (holds i)) (below-mono i (count s) (demand s (holds i)) (omega (arith, h .1)) (holds-below i (line s i) (operands s wf i)))
+      if-has-below (count s) (has (label J a) (holds i)) (demand s (holds i))
+      (below-mono i (count s) (demand s (holds i)) (omega (arith, h .1)) (holds-below i (line s i) (operands s wf i)))
   wanted-below J k (own a (fails i)) h =
-      if-has-below (count s) (has (label J a) (fails i)) (demand s (fails i)) (below-mono i (count s) (demand s (fails i)) (omega (arith, h .1)) (fails-below i (line s i) (operands s wf i)))
+      if-has-below (count s) (has (label J a) (fails i)) (demand s (fails i))
+      (below-mono i (count s) (demand s (fails i)) (omega (arith, h .1)) (fails-below i (line s i) (operands s wf i)))
   wanted-below J k (rule a r) h = wf .rules r (h .1)
   wanted-below J k (push e) h = λ m q.
       let l = label J (e .source) in
@@ -82,7 +85,8 @@ module _ (s : Sheet) (wf : WellFormed s) (es : List RoleAssertion) where
     pub within-same : (f g : ℕ) (J : Joint) → length J ≡ k → unsetAll (count s) J < f → unsetAll (count s) J < g → settleWithin s es f J ≡ settleWithin s es g J
     within-same zero g J len p q = absurd (omega arith)
     within-same (suc f) zero J len p q = absurd (omega arith)
-    within-same (suc f) (suc g) J len p q = next-same (settleWithin s es f) (settleWithin s es g) J len (λ K l less. within-same f g K l (omega arith) (omega arith))
+    within-same (suc f) (suc g) J len p q = next-same (settleWithin s es f) (settleWithin s es g) J len
+        (λ K l less. within-same f g K l (omega arith) (omega arith))
 
     -- settling, step by step
     pub settle-law : (J : Joint) → length J ≡ k → settle s es J ≡ follow (settle s es) J (next s es J)
@@ -93,7 +97,8 @@ module _ (s : Sheet) (wf : WellFormed s) (es : List RoleAssertion) where
         (omega (arith, unsetAll-bound (count s) J)) (omega (arith, unsetAll-bound (count s) K)))
 
     -- and nothing else settles so
-    pub settle-unique : (F : Joint → List Joint) → ((J : Joint) → length J ≡ k → F J ≡ follow F J (next s es J)) → (J : Joint) → length J ≡ k → F J ≡ settle s es J
+    pub settle-unique : (F : Joint → List Joint) → ((J : Joint) → length J ≡ k → F J ≡ follow F J (next s es J)) → (J : Joint) → length J ≡ k
+        → F J ≡ settle s es J
     settle-unique F law J len = below (suc (unsetAll (count s) J)) J len (omega arith)
       where
         below : (n : ℕ) (J : Joint) → length J ≡ k → unsetAll (count s) J < n → F J ≡ settle s es J

@@ -5,7 +5,8 @@ use mathlib.Core.Path.{_≡_}
 use lib.Dec.{ltb}
 use borrow.Author.Tests.{ltb-true}
 use Rattle.alc.specs.Lists.{_∈_, all, upTo}
-use Rattle.alc.specs.Sheet.{count, wellFormed, linesWell, line, classesWell, ClassAssertion, rulesWell, Rule, operandsBelow, Sheet, rolesWell, RoleAssertion, Line, lineInLimits, inLimits, roleCount}
+use Rattle.alc.specs.Sheet.{count, wellFormed, linesWell, line, classesWell, ClassAssertion, rulesWell, Rule, operandsBelow, Sheet, rolesWell}
+use Rattle.alc.specs.Sheet.{RoleAssertion, Line, lineInLimits, inLimits, roleCount}
 use Rattle.alc.specs.Theorems.Lists.{and-right, upTo-intro, all-elim, and-left}
 
 -- what follows from it, for use in proofs

@@ -39,7 +39,8 @@ module _ {A : Type 0} (R : A → A → Type 0) where
   pub map-sorted : (f : ℕ → A) (a k : ℕ) → ((i j : ℕ) → i < j → j < a + k → R (f i) (f j)) → Sorted (map f (from a k))
   map-sorted f a zero h = tt
   map-sorted f a (suc k) h = (
-    λ y m. let (j, j-in, e) = Memᴰ·of-map f (from (suc a) k) m in let (b, c) = from-elim (suc a) k j j-in in subst (R (f a)) e (h a j (omega arith) (omega arith)),
+    λ y m. let (j, j-in, e) = Memᴰ·of-map f (from (suc a) k) m in let (b, c) = from-elim (suc a) k j j-in in
+        subst (R (f a)) e (h a j (omega arith) (omega arith)),
     map-sorted f (suc a) k (λ i j b c. h i j b (omega arith)),
   )
 

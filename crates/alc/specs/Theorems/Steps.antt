@@ -86,7 +86,8 @@ unsetAll-set n (l ∷ J) zero k h = omega arith
 unsetAll-set n (l ∷ J) (suc a) k h = omega (arith, unsetAll-set n J a k (omega arith))
 
 -- marks that are new lessen what is left
-pub mark-less : (n : ℕ) (J : Joint) (a : ℕ) (ms : List Mark) (m : Mark) → a < length J → m ∈ ms → lineOf m < n → has (label J a) m ≡ false → unsetAll n (markAt J a ms) < unsetAll n J
+pub mark-less : (n : ℕ) (J : Joint) (a : ℕ) (ms : List Mark) (m : Mark) → a < length J → m ∈ ms → lineOf m < n → has (label J a) m ≡ false
+    → unsetAll n (markAt J a ms) < unsetAll n J
 mark-less n J a ms m h i b e =
     omega (
       arith,
@@ -156,7 +157,8 @@ pub view : (s : Sheet) (es : List RoleAssertion) (J : Joint) → View s es J
 unfolding next
 view s es J = go (closes s J) refl (first (adds s J) (moves s es (length J))) refl (first-is (adds s J) (moves s es (length J)))
   where
-    go : (b : Bool) → closes s J ≡ b → (o : Maybe Move) → first (adds s J) (moves s es (length J)) ≡ o → Found (adds s J) (moves s es (length J)) o → View s es J
+    go : (b : Bool) → closes s J ≡ b → (o : Maybe Move) → first (adds s J) (moves s es (length J)) ≡ o → Found (adds s J) (moves s es (length J)) o
+        → View s es J
     go true e o q f = is-clashed e (rw (e, next))
     go false e nothing q (missing h) = is-settled (record { clear = e; done = λ m g. h m (moves-intro s es (length J) m g) }) (rw (e, next, q))
     go false e (just m) q (found i a) = is-step m (moves-elim s es (length J) m i) a (rw (e, next, q))

@@ -12,7 +12,8 @@ use Rattle.alc.specs.Label.{Label, _⊆_}
 use Rattle.alc.specs.Settle.{label, settle, Joint}
 use Rattle.alc.specs.Seeds.{good, served, seeds, asks, survivors, strikes, Ask, SeedSatisfiable, strike, expansions, among}
 use Rattle.alc.specs.Model.{orBlank}
-use Rattle.alc.specs.Theorems.Lists.{filter-same, filter-intro, clashing, missing, all-intro, found, all-elim, any-elim, any-intro, first-is, filter-elim, Found}
+use Rattle.alc.specs.Theorems.Lists.{filter-same, filter-intro, clashing, missing, all-intro, found, all-elim, any-elim, any-intro, first-is}
+use Rattle.alc.specs.Theorems.Lists.{filter-elim, Found}
 use Rattle.alc.specs.Theorems.Sheet.{WellFormed}
 use Rattle.alc.specs.Theorems.Settle.{settle-finds}
 use Rattle.alc.specs.Theorems.Seeds.{seeds-in, among-in, among-true}

@@ -17,8 +17,10 @@ use Rattle.alc.specs.Sheet.{Sheet, wellFormed, inLimits, nameCount, role
 use Rattle.alc.specs.Label.{Label}
 use Rattle.alc.specs.Settle.{Joint}
 use Rattle.alc.specs.Judge.{firstFine}
-use Rattle.alc.specs.Model.{chosen, modelSeeds, labelAt, edgeAt, modelEdges, named, nameMask, modelWords, satisfyAnswer, word, elements, mask, edges, edgeFrom, edgeRole, edgeTo, decoded, Shaped, TenMeans}
-use Rattle.alc.specs.Theorems.Lists.{and-left, and-right, and-both, here, there, cond-elim, cond-intro, any-elim, any-intro, each-elim, each-intro, upTo-elim, upTo-intro, same?, tests-same, getD-in, length-from, map-from}
+use Rattle.alc.specs.Model.{chosen, modelSeeds, labelAt, edgeAt, modelEdges, named, nameMask, modelWords, satisfyAnswer, word, elements, mask, edges}
+use Rattle.alc.specs.Model.{edgeFrom, edgeRole, edgeTo, decoded, Shaped, TenMeans}
+use Rattle.alc.specs.Theorems.Lists.{and-left, and-right, and-both, here, there, cond-elim, cond-intro, any-elim, any-intro, each-elim, each-intro}
+use Rattle.alc.specs.Theorems.Lists.{upTo-elim, upTo-intro, same?, tests-same, getD-in, length-from, map-from}
 use Rattle.alc.specs.Theorems.Sorted.{Sorted, sorted-at, each-sorted, map-sorted, cond-sorted, sorted-unique}
 use Rattle.alc.specs.Theorems.Counting.{length-each}
 use Rattle.alc.specs.Theorems.Bits.{bit-put, bit-put-other, put-false, bit-small, bit-ext-below}
@@ -123,7 +125,8 @@ module _ (n : ℕ) (masks : List ℕ) (len : length masks ≡ n) (es : List (Lis
       let as-many = edges-length (laid n masks es) ∙ laid-edges in
       ext-getD [] (edgeList (laid n masks es)) es as-many (λ k h. edge-at (laid n masks es) k (omega (arith, laid-edges)) ∙ laid-edge k (omega arith))
 
-  laid-shaped : ((x : ℕ) → x < n → mask (laid n masks es) x < 2 ^ nameCount) → ((e : List ℕ) → e ∈ es → Inside n e) → Sorted Earlier es → Shaped (laid n masks es)
+  laid-shaped : ((x : ℕ) → x < n → mask (laid n masks es) x < 2 ^ nameCount) → ((e : List ℕ) → e ∈ es → Inside n e) → Sorted Earlier es
+      → Shaped (laid n masks es)
   laid-shaped small fit sort = record {
     whole = omega (arith, length-append masks (length es ∷ each (λ e. e) es), length-each (λ e. e) 3 es threes, laid-edges);
     masks = small;

@@ -5,10 +5,6 @@ use Prim.Native.Nat.{_-_, _≤_}
 use lib.ListN.{length}
 use Rattle.slices.proofs.count_all.Statement.{statement}
 use Rattle.slices.proofs.count_all.Tie as tie
-use Rattle.slices.proofs.count_all.Reads as reads
-use Rattle.slices.proofs.count_all.Lts as lts
-use Rattle.slices.proofs.count.Reads as count-reads
-use Rattle.slices.proofs.count_pairs.Reads as count-pairs-reads
 
 abbrev Inv-loop : tie.InvT-loop
 Inv-loop times₀ one₀ a₀ times one a = (length one ≡ 1) × (a ≤ 256)

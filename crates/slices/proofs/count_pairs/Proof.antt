@@ -5,9 +5,6 @@ use Prim.Native.Nat.{_-_, _≤_}
 use lib.ListN.{length}
 use Rattle.slices.proofs.count_pairs.Statement.{statement}
 use Rattle.slices.proofs.count_pairs.Tie as tie
-use Rattle.slices.proofs.count_pairs.Reads as reads
-use Rattle.slices.proofs.count_pairs.Lts as lts
-use Rattle.slices.proofs.count.Reads as count-reads
 
 abbrev Inv-loop : tie.InvT-loop
 Inv-loop times₀ first s₀ b₀ times s b = (length s ≡ 2) × (b ≤ 256)

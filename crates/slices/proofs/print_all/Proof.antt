@@ -3,9 +3,6 @@ use borrow.Author.Needs.{needs}
 use Prim.Native.Nat.{_-_, _≤_}
 use Rattle.slices.proofs.print_all.Statement.{statement}
 use Rattle.slices.proofs.print_all.Tie as tie
-use Rattle.slices.proofs.print_all.Reads as reads
-use Rattle.slices.proofs.print_all.Lts as lts
-use Rattle.slices.proofs.print_slot.Reads as print-slot-reads
 
 abbrev Inv-loop : tie.InvT-loop
 Inv-loop times slot₀ slot = (slot ≤ 36)

@@ -6,8 +6,6 @@ use Rattle.alc.specs.Label.{lineOf}
 use Rattle.alc.specs.Theorems.Bits.{put-word}
 use Rattle.alc.proofs.Label.add.Statement.{statement}
 use Rattle.alc.proofs.Label.add.Tie as tie
-use Rattle.alc.proofs.Label.add.Reads as reads
-use Rattle.alc.proofs.Label.add.Lts as lts
 
 -- src/lib.rt:43:25
 enum-known-m : tie.Need-enum-known-m

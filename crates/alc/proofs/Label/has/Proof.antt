@@ -6,8 +6,6 @@ use Rattle.alc.specs.Bits.{bit}
 use Rattle.alc.specs.Label.{lineOf}
 use Rattle.alc.proofs.Label.has.Statement.{statement}
 use Rattle.alc.proofs.Label.has.Tie as tie
-use Rattle.alc.proofs.Label.has.Reads as reads
-use Rattle.alc.proofs.Label.has.Lts as lts
 
 -- src/lib.rt:72:25
 enum-known-m : tie.Need-enum-known-m

@@ -4,7 +4,6 @@ use mathlib.Core.List.{[]}
 use native.Mathlib.Omega.{arith}
 use Rattle.alc.specs.Sheet.{Sheet}
 use Rattle.alc.specs.Judge.{start}
-use Rattle.alc.specs.Theorems.Sheet.{well-formed}
 use Rattle.plan.specs.Plan.{planSheet}
 use Rattle.tableau.specs.Joints.{jointOf}
 use Rattle.engine.proofs.Ledgers.{known-none, ledger-none}

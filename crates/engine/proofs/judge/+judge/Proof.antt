@@ -9,9 +9,9 @@ use Rattle.alc.specs.Label.{add, blank, join}
 use Rattle.alc.specs.Settle as theory
 use Rattle.alc.specs.Settle.{label, settle}
 use Rattle.alc.specs.Theorems.Steps.{unsetAll}
-use Rattle.tableau.specs.declared.joint.Joint.{Joint}
-use Rattle.tableau.specs.declared.joint.Next.{Next}
-use Rattle.tableau.specs.declared.joint.Next.the-variants.{Clashed, Settled, Onward, Split}
+use Rattle.tableau.specs.declared.joint.Labels.{Labels}
+use Rattle.tableau.specs.declared.joint.JointStep.{JointStep}
+use Rattle.tableau.specs.declared.joint.JointStep.the-variants.{Clashed, Settled, Onward, Split}
 use Rattle.plan.specs.Plan.{planSheet, Prepared}
 use Rattle.tableau.specs.Joints.{jointOf, Fit, settleBy}
 use Rattle.tableau.proofs.Jointly.{Fresh, FreshBy, joint-length, settled-calm, stepped-fresh, stepped-settles}
@@ -26,7 +26,7 @@ use Rattle.engine.proofs.judge.judge.Kinds as judge-kinds
 use Rattle.engine.proofs.judge.+judge.Lts-judge as judge-lts
 use Rattle.alc.proofs.Label.add.Reads as add-reads
 use Rattle.alc.proofs.Label.join.Reads as join-reads
-use Rattle.tableau.proofs.joint.Joint.with.Reads as with-reads
+use Rattle.tableau.proofs.joint.Labels.with.Reads as with-reads
 use Rattle.tableau.proofs.joint.next_step.Reads as next-step-reads
 use Rattle.engine.proofs.judge.judge_settled.Reads as judge-settled-reads
 use Rattle.engine.proofs.judge.told.Reads as told-reads
@@ -72,7 +72,7 @@ module _ (t : ℕ) (n : judge-lts.After-next-step (calls t) (judge-at t) judge.P
   abbrev s : Sheet
   s = planSheet plan
 
-  abbrev j : Joint
+  abbrev j : Labels
   j = start .args .t2
 
   abbrev J : theory.Joint
@@ -90,7 +90,7 @@ module _ (t : ℕ) (n : judge-lts.After-next-step (calls t) (judge-at t) judge.P
   long : length J ≡ j .count
   long = joint-length _ j (start .good .1 .0 .1 .1 .0 .1 .0 .1) (fit .small)
 
-  module _ (k : Next) (e : n .next-step .result ≡ k) where
+  module _ (k : JointStep) (e : n .next-step .result ≡ k) where
     fresh : FreshBy 32 (j .count) J k
     fresh = stepped-fresh ready j fit long k (sym e ∙ n .next-step .ensures)
 
@@ -149,11 +149,11 @@ module _ (t : ℕ) (c : judge-lts.After-next2 (calls t) (judge-at t) judge.Post)
   split-at : by < 8
   split-at = omega (arith, split-fresh .0, fit t split .small)
 
-  made-by : (m : Mark) → Fresh 32 (J t split) by m → (r : Joint) {l : Label} → l ≡ add (getD (j t split .labels) by blank) m
+  made-by : (m : Mark) → Fresh 32 (J t split) by m → (r : Labels) {l : Label} → l ≡ add (getD (j t split .labels) by blank) m
       → (jointOf r ≡ set (J t split) by l) × (r .count ≡ j t split .count) → Branch (s t split) (marked m) t r
   made-by m new r = branch (fit t split) (start t split .pre .0) r by (λ (l : Label). add l m) (split-fresh .0) (new .1)
 
-  both : (r : Joint) (L : theory.Joint) → Branch (s t split) (marked m₁) t r → settled t split L ≡ settled t split (marked m₂)
+  both : (r : Labels) (L : theory.Joint) → Branch (s t split) (marked m₁) t r → settled t split L ≡ settled t split (marked m₂)
       → settled t split (J t split) ≡ settled t split (jointOf r) ++ settled t split L
   both r L f e = settles t split (Split by m₁ m₂) (c .next2 .given .1) ∙ ap₂ _++_ (sym (f .settles)) (sym e)
 

@@ -20,11 +20,6 @@ use Rattle.engine.proofs.Ledgers.{begun, begun-full, begun-ready, closi
 use borrow.Author.Needs.{needs}
 use Rattle.engine.proofs.judge.judge_settled.Statement.{statement}
 use Rattle.engine.proofs.judge.judge_settled.Tie as tie
-use Rattle.engine.proofs.judge.judge_settled.Reads as reads
-use Rattle.engine.proofs.judge.judge_settled.Lts as lts
-use Rattle.engine.proofs.close.close.Reads as close-reads
-use Rattle.engine.proofs.judge.include_joint.Reads as include-joint-reads
-use Rattle.engine.proofs.judge.weigh.Reads as weigh-reads
 
 -- what is known once its seeds are recorded
 module _ (c : tie.After-include-joint) where

@@ -8,7 +8,7 @@ use Rattle.engine.proofs.judge.start_joint.Tie as tie
 use Rattle.engine.proofs.judge.start_joint.Reads as reads
 use Rattle.engine.proofs.judge.start_joint.Lts as lts
 use Rattle.alc.proofs.Label.add.Reads as add-reads
-use Rattle.tableau.proofs.joint.Joint.with.Reads as with-reads
+use Rattle.tableau.proofs.joint.Labels.with.Reads as with-reads
 use Rattle.engine.proofs.judge.blank_joint.Reads as blank-joint-reads
 
 abbrev Inv-loop : tie.InvT-loop

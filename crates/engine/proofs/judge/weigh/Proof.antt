@@ -5,11 +5,6 @@ use Rattle.engine.proofs.Judging.{cleared-lent, struck-lent, weighed}
 use borrow.Author.Needs.{needs}
 use Rattle.engine.proofs.judge.weigh.Statement.{statement}
 use Rattle.engine.proofs.judge.weigh.Tie as tie
-use Rattle.engine.proofs.judge.weigh.Reads as reads
-use Rattle.engine.proofs.judge.weigh.Lts as lts
-use Rattle.zeros.proofs.clear_marks.Reads as clear-marks-reads
-use Rattle.engine.proofs.judge.joint_stands.Reads as joint-stands-reads
-use Rattle.engine.proofs.strike.strike.Reads as strike-reads
 
 -- src/judge.rt:149:17
 sub-clear-marks : tie.Need-sub-clear-marks

@@ -1,9 +1,9 @@
--- `tableau::joint::Joint::with` meets its contract. Assumes nothing.
+-- `tableau::joint::Labels::with` meets its contract. Assumes nothing.
 use mathlib.Core.Path.{refl}
 use lib.Seq.{take-set-lt}
 use borrow.Author.Needs.{needs}
-use Rattle.tableau.proofs.joint.Joint.with.Statement.{statement}
-use Rattle.tableau.proofs.joint.Joint.with.Tie as tie
+use Rattle.tableau.proofs.joint.Labels.with.Statement.{statement}
+use Rattle.tableau.proofs.joint.Labels.with.Tie as tie
 
 mul-l : tie.Need-mul-l
 mul-l c = search needs
