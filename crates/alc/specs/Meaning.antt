@@ -1,4 +1,4 @@
--- Finite interpretations, what is true in them, and what a sheet asks of them: source document 004's semantics, over lines.
+-- Finite interpretations, what is true in them, and what a sheet asks of them: the usual semantics of ALC, over lines.
 -- Document 01, "What the engine is given": "the domain is not empty. Here it is finite. Two individuals may be one element". Definitions only.
 use Prim.Native.Nat.{ℕ, zero, suc, _<_}
 use mathlib.Core.Bool.{Bool, true, false, not as flip, _&&_, _||_}
