@@ -92,9 +92,13 @@ witnesses =
     -- clash at the start. Holds: a seed that clashes by itself takes a record.
     -- Sheet: lines bottom, some 1 0; a, b; 1(a)
     ∷ tells (2 ∷ 1 ∷ 6 ∷ 1 ∷ 0 ∷ 0 ∷ 2 ∷ 1 ∷ 0 ∷ 1 ∷ 0 ∷ []) 1 12 ([])
-    -- one seed. Holds: equal seeds along two roles, or by two lines, are one record and one element.
-    -- Sheet: lines A, some 1 0, some 0 0; a, b; 1(a), 2(a)
-    ∷ tells (3 ∷ 2 ∷ 0 ∷ 6 ∷ 1 ∷ 0 ∷ 6 ∷ 0 ∷ 0 ∷ 0 ∷ 2 ∷ 2 ∷ 0 ∷ 1 ∷ 0 ∷ 2 ∷ 0 ∷ []) 1 10 (3 ∷ 0 ∷ 0 ∷ 1 ∷ 2 ∷ 0 ∷ 0 ∷ 2 ∷ 0 ∷ 1 ∷ 2 ∷ [])
+    -- one seed. Holds: equal seeds along two roles, or by two lines, are one record and one element, and one edge for each role.
+    -- Sheet: lines A, some 1 0, some 0 0, some 0 0; a, b; 1(a), 2(a), 3(a)
+    ∷ tells (4 ∷ 2 ∷ 0 ∷ 6 ∷ 1 ∷ 0 ∷ 6 ∷ 0 ∷ 0 ∷ 6 ∷ 0 ∷ 0 ∷ 0 ∷ 2 ∷ 3 ∷ 0 ∷ 1 ∷ 0 ∷ 2 ∷ 0 ∷ 3 ∷ 0 ∷ []) 1 10 (3 ∷ 0 ∷ 0 ∷ 1 ∷ 2 ∷ 0 ∷ 0 ∷ 2 ∷ 0 ∷ 1 ∷ 2 ∷ [])
+    -- seeds, not labels. Holds: two seeds that settle as the same label stay two elements.
+    -- Sheet: lines A, B, some 0 0, only 0 1; rule 0 ⊑ 1; a, b; 2(a), 2(b), 3(b)
+    ∷ tells (4 ∷ 2 ∷ 0 ∷ 2 ∷ 1 ∷ 6 ∷ 0 ∷ 0 ∷ 7 ∷ 0 ∷ 1 ∷ 1 ∷ 0 ∷ 1 ∷ 2 ∷ 3 ∷ 0 ∷ 2 ∷ 1 ∷ 2 ∷ 1 ∷ 3 ∷ 0 ∷ []) 2 10
+    (4 ∷ 0 ∷ 0 ∷ 3 ∷ 3 ∷ 2 ∷ 0 ∷ 0 ∷ 2 ∷ 1 ∷ 0 ∷ 3 ∷ [])
     -- no stand-in. Holds: no individual takes the place of a seed, though b is a neighbour with the same label.
     -- Sheet: lines A, some 0 0; a, b; 1(a), 0(b); role 0 (a,b)
     ∷ tells (2 ∷ 2 ∷ 0 ∷ 6 ∷ 0 ∷ 0 ∷ 0 ∷ 2 ∷ 2 ∷ 0 ∷ 1 ∷ 1 ∷ 0 ∷ 1 ∷ 0 ∷ 0 ∷ 1 ∷ []) 1 10 (3 ∷ 0 ∷ 1 ∷ 1 ∷ 2 ∷ 0 ∷ 0 ∷ 1 ∷ 0 ∷ 0 ∷ 2 ∷ [])
@@ -237,7 +241,8 @@ limitRows =
     ∷ faultyAt (0 ∷ 0 ∷ 1 ∷ 1 ∷ 0 ∷ 0 ∷ []) 5 5
     ∷ faultyAt (0 ∷ 0 ∷ 0 ∷ 0 ∷ 1 ∷ 7 ∷ 0 ∷ 0 ∷ []) 5 6
     -- judged whole. The first number is too large, the next badly formed, and the first answers: a kind before its operands and before the next line,
-    -- the first operand of and, or, some, only before the second, a count before its entries, c before d, individual before line, role before from, from before to
+    -- the first operand of and, or, some, only before the second, a count before its entries, c before d, individual before line, role before from, from
+    -- before to
     ∷ faultyAt (1 ∷ 8 ∷ 128 ∷ 0 ∷ []) 4 1
     ∷ faultyAt (2 ∷ 8 ∷ 128 ∷ 0 ∷ []) 4 1
     ∷ faultyAt (2 ∷ 0 ∷ 4 ∷ 1 ∷ 128 ∷ 0 ∷ []) 5 3
