@@ -9,6 +9,7 @@ use tableau::joint::Labels;
 use tableau::joint::next_step;
 use tableau::records::Grown;
 use tableau::walks::include_seeds;
+use tableau::walks::seeds_stand;
 use zeros::clear_marks;
 ghost use mathlib.Core.Path.{_≡_};
 ghost use mathlib.Core.Bool.{false};
