@@ -123,7 +123,8 @@ fn satisfy_all() {
     satisfy(b"\x00\x00\x00\x00\x00\x00", 2, 12);
 }
 
-// P9 with class 2 and with a list buffer that is too short, P9's class 3 and port 2, which are not there, its class 2 of a second port, P11's class 3; then the line that names itself.
+// P9's class 2, and again with a list buffer that is too short; its class 3 and its port 2, which are not there; class 2 of a second port;
+// P11's class 3; then the line that names itself.
 fn causes_all() {
     causes(
         b"\x03\x02\x00\x02\x01\x02\x02\x03\x00\x01\x01\x02\x00\x02\x01\x01\x00\x00\x00",
