@@ -7,8 +7,11 @@ use answers::answer_value;
 use balance::Margin;
 use balance::balance;
 use sheet::reason_number;
+ghost use mathlib.Core.Path.{_≡_};
+ghost use Prim.Native.Nat.{_<_};
+ghost use lib.IntN.{pos};
+ghost use Rattle.alc.specs.Replies as replies;
 ghost use Rattle.alc.specs.Promises.{SatisfyPromise, CausesPromise, BalancePromise};
-ghost use Rattle.desk.specs.Export.{reply, balanced, NoMore};
 
 // `satisfy`: document 01's number, and what it carries.
 #[no_mangle]
@@ -19,7 +22,7 @@ pub extern "C" fn bargaindune_satisfy(
     model: &mut [u32],
     carried: &mut u64,
 ) -> u64
-    ensures { λ r. ⌜ SatisfyPromise (now (sheet .entry)) (now (records .entry)) (now (marks .entry)) (now (model .entry)) (reply r (now (carried .exit)) (now (records .exit)) (now (marks .exit)) (now (model .exit))) ⌝ }
+    ensures { λ r. ⌜ SatisfyPromise (now (sheet .entry)) (now (records .entry)) (now (marks .entry)) (now (model .entry)) (record { number = r; carries = now (carried .exit); records = now (records .exit); marks = now (marks .exit); out = now (model .exit) }) ⌝ }
 {
     let answer = satisfy(sheet, records, marks, model);
     *carried = answer_value(answer) as u64;
@@ -37,11 +40,11 @@ pub extern "C" fn bargaindune_causes(
     list: &mut [u16],
     carried: &mut u64,
 ) -> u64
-    ensures { λ r. ⌜ CausesPromise (now (sheet .entry)) port class (now (records .entry)) (now (marks .entry)) (now (list .entry)) (reply r (now (carried .exit)) (now (records .exit)) (now (marks .exit)) (now (list .exit))) ⌝ }
+    ensures { λ r. ⌜ CausesPromise (now (sheet .entry)) port class (now (records .entry)) (now (marks .entry)) (now (list .entry)) (record { number = r; carries = now (carried .exit); records = now (records .exit); marks = now (marks .exit); out = now (list .exit) }) ⌝ }
 {
-    let answer = causes(sheet, port, class, records, marks, list);
-    *carried = answer_value(answer) as u64;
-    answer_number(answer)
+    let listed = causes(sheet, port, class, records, marks, list);
+    *carried = answer_value(listed) as u64;
+    answer_number(listed)
 }
 
 // `balance`: 0, which is no number of document 01, with what is left; or the refusal's number, with its place. What is not told is 0.
@@ -52,8 +55,8 @@ pub extern "C" fn bargaindune_balance(
     carried: &mut u64,
     left: &mut i64,
 ) -> u64
-    ensures { λ r. ⌜ BalancePromise (now (sheet .entry)) room (balanced r (now (carried .exit)) (now (left .exit))) ⌝ }
-    ensures { λ r. ⌜ NoMore r (now (carried .exit)) (now (left .exit)) ⌝ }
+    ensures { λ r. ⌜ (r ≡ 0 → BalancePromise (now (sheet .entry)) room (replies.left (now (left .exit))) × (now (carried .exit) ≡ 0)) ⌝ }
+    ensures { λ r. ⌜ (0 < r → BalancePromise (now (sheet .entry)) room (replies.faulty r (now (carried .exit))) × (now (left .exit) ≡ pos 0)) ⌝ }
 {
     let margin = balance(sheet, room);
     match margin {

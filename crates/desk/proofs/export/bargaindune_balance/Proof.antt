@@ -38,12 +38,12 @@ returns : tie.Need-returns
 returns c =
     let (n, named) = from-one (c .before .before .margin .given .0 .0) in
     let kept = rw (c .before .before .margin .given .1, named) at (c .before .before .before .before .balance .ensures) in
-    rw (c .reason-number .ensures, named) (kept, ((λ e. absurd (omega arith)), λ _. refl))
+    rw (c .reason-number .ensures, named) ((λ e. absurd (omega arith)), λ _. (kept, refl))
 
 returns-2 : tie.Need-returns-2
 returns-2 c =
     let kept = rw (c .before .margin2 .given .1) at (c .before .before .before .balance .ensures) in
-    rw (toZ-ofZ w64 (c .before .margin2 .given .0 .0) (record { sfits = c .known-told2 .given .0 .1 })) (kept, ((λ _. refl), λ below. absurd (omega arith)))
+    rw (toZ-ofZ w64 (c .before .margin2 .given .0 .0) (record { sfits = c .known-told2 .given .0 .1 })) ((λ _. (kept, refl)), λ below. absurd (omega arith))
 
 pub bargaindune-balance-spec : {M : Type 1} → statement M
 bargaindune-balance-spec =
