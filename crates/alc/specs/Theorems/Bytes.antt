@@ -7,7 +7,7 @@ use mathlib.Core.List.{List, [], _∷_, _++_, append-assoc, append-nil}
 use lib.ListN.{length, getD, take, length-append, length-take}
 use lib.Seq.{take-all, append-snoc, take-suc, take-at, take-take, take-append-le, getD-at, getD-take, length-take-le}
 use lib.Dec.{ltb, eqb}
-use borrow.Author.Tests.{ltb-true, ltb-false, lt-ltb, le-ltb, eqb-false}
+use borrow.Author.Tests.{ltb-true, ltb-false, lt-ltb, le-ltb, eqb-true, eqb-false}
 use native.Mathlib.Decide.{decLt}
 use native.Mathlib.Omega.{arith}
 use Rattle.alc.specs.Lists.{each, all, from}
@@ -16,7 +16,8 @@ use Rattle.alc.specs.Sheet.{mostLines, mostRules, mostIndividuals, mostC
 use Rattle.alc.specs.Sheet.{classesWell, rolesWell, wellFormed, inLimits}
 use Rattle.alc.specs.Bytes.{Read, refused, taken, then, numberAt, belowAt, operandsAt, lineAt, ruleAt, classAt, roleAt, severalAt, countedAt, sectionsAt}
 use Rattle.alc.specs.Bytes.{readSheet, lineBytes, ruleBytes, classBytes, roleBytes, bytesOf}
-use Rattle.alc.specs.Theorems.Lists.{cases, or-false-left, and-left, and-right, and-both, one-true}
+use Rattle.alc.specs.Promises.{LaidOut, Ends, BadlyFormed, FaultsOf}
+use Rattle.alc.specs.Theorems.Lists.{cases, or-cases, or-false-left, and-left, and-right, and-both, one-true}
 
 -- from place p to place q the bytes are xs
 record Spells (bs : List ℕ) (p : ℕ) (xs : List ℕ) (q : ℕ) : Type 0 where
@@ -71,10 +72,6 @@ module _ (bs : List ℕ) where
       same : (j : ℕ) → j ≤ q → take j (take m bs ++ more) ≡ take j bs
       same j g = take-append-le j (take m bs) more (omega (arith, length-take m bs)) ∙ take-take j m bs (omega arith)
 
--- the sheet ends at place k, or in the number that begins there
-abbrev Ends : List ℕ → ℕ → Type 0
-Ends bs k = (k ≡ length bs) ⊎ ((suc k ≡ length bs) × (128 ≤ getD bs k 0))
-
 -- ---- readers, which have a place p: F reads the bytes, and R a xs says that value a may be read, from the bytes xs
 module _ {A : Type 0} where
   -- what a refusal with number n at place k tells
@@ -84,6 +81,7 @@ module _ {A : Type 0} where
     after : p ≤ k
     within : k ≤ length bs
     ends : n ≡ 1 → Ends bs k
+    badly : n ≡ 2 → BadlyFormed bs k
     early : 1 < n → (more : List ℕ) → F (take (2 + k) bs ++ more) ≡ refused n k
 
   -- what a reading of bs at place p tells
@@ -127,7 +125,7 @@ module _ {A B : Type 0} where
       → p ≤ q → Refusal q F bs n k → ((more : List ℕ) → F (take (2 + k) bs ++ more) ≡ refused n k → G (take (2 + k) bs ++ more) ≡ refused n k)
       → Refusal p G bs n k
   passed h o g =
-      record { low = o .low; high = o .high; after = omega arith; within = o .within; ends = o .ends; early = λ u more. g more (o .early u more) }
+      record { low = o .low; high = o .high; after = omega arith; within = o .within; ends = o .ends; badly = o .badly; early = λ u more. g more (o .early u more) }
 
 module _ {A B : Type 0} where
   -- the bytes of an a, and behind them what is read after it
@@ -181,13 +179,17 @@ module _ (bs : List ℕ) (p : ℕ) where
   number-two h k g = rw (lt-ltb p (length bs) h, le-ltb (getD bs p 0) 128 g, lt-ltb (suc p) (length bs) k, numberAt)
 
   -- what a whole number gives: two bytes may be badly formed, and are 128 or more
-  number-whole : Whole bs p → (numberAt bs p ≡ refused 2 p) ⊎ ((v : ℕ) × (q : ℕ) × (numberAt bs p ≡ taken v q) × (v < 128 → (v ≡ getD bs p 0) × (q ≡ suc p)))
+  number-whole : Whole bs p → ((numberAt bs p ≡ refused 2 p) × BadlyFormed bs p)
+      ⊎ ((v : ℕ) × (q : ℕ) × (numberAt bs p ≡ taken v q) × (v < 128 → (v ≡ getD bs p 0) × (q ≡ suc p)))
   unfolding two
   number-whole (h, inl g) = inr (getD bs p 0, suc p, number-one h g, λ _. (refl, refl))
   number-whole (h, inr (k, g)) =
       let c = getD bs (suc p) 0 in
       ⊎-elim
-      (λ (e : (eqb c 0 || ltb 127 c) ≡ true). inl (rw (number-two h k g, two, e)))
+      (λ (e : (eqb c 0 || ltb 127 c) ≡ true). inl (
+        rw (number-two h k g, two, e),
+        (k, g, ⊎-elim (λ z. inl (eqb-true c 0 z)) (λ z. inr (ltb-true 127 c z)) (or-cases (eqb c 0) (ltb 127 c) e)),
+      ))
       (λ (e : (eqb c 0 || ltb 127 c) ≡ false).
       inr (
         getD bs p 0 - 128 + 128 * c,
@@ -235,7 +237,7 @@ number-early bs p more (h, w) =
     byte j h g = one-spelled cut j (getD bs j 0) (suc j) (spells-early bs j (suc j) (2 + p) (getD bs j 0 ∷ []) more g (spells-one bs j h))
 
 -- a number below n has one byte, for the limits are small
-module _ (n why : ℕ) (fit : (n ≤ 128) × (1 < why) × (why < 6)) where
+module _ (n why : ℕ) (fit : (n ≤ 128) × (2 < why) × (why < 6)) where
   -- the test against the limit
   below-test : (bs : List ℕ) (p v q : ℕ) → numberAt bs p ≡ taken v q → (b : Bool) → ltb v n ≡ b
       → belowAt bs n why p ≡ elim b [ true ↦ taken v q | false ↦ refused why p ]
@@ -263,32 +265,34 @@ module _ (n why : ℕ) (fit : (n ≤ 128) × (1 < why) × (why < 6)) where
         after = a;
         within = b;
         ends = λ _. c;
+        badly = λ z. absurd (omega arith);
         early = λ z more. absurd
             (omega arith);
       })
 
       -- a whole number that is refused
-      faulty : (bs : List ℕ) (k : ℕ) → p ≤ length bs → Whole bs p → (1 < k) × (k < 6) → belowAt bs n why p ≡ refused k p → Out bs
-      faulty bs k h w g e =
+      faulty : (bs : List ℕ) (k : ℕ) → p ≤ length bs → Whole bs p → (1 < k) × (k < 6) → (k ≡ 2 → BadlyFormed bs p) → belowAt bs n why p ≡ refused k p → Out bs
+      faulty bs k h w g b e =
           rw e (record {
             low = omega arith;
             high = g .1;
             after = omega arith;
             within = h;
             ends = λ z. absurd (omega arith);
+            badly = b;
             early = λ _ more. rw (number-early bs p more w) e;
           })
 
       begun : (bs : List ℕ) → p ≤ length bs → Whole bs p → Out bs
       begun bs h w =
           ⊎-elim
-          (λ e. faulty bs 2 h w (omega arith) (rw e))
+          (λ (e, b). faulty bs 2 h w (omega arith) (λ _. b) (rw e))
           (λ ((v, q, e, k) : (v : ℕ) × (q : ℕ) × (numberAt bs p ≡ taken v q) × (v < 128 → (v ≡ getD bs p 0) × (q ≡ suc p))).
           ⊎-elim
           (λ (t : ltb v n ≡ true).
           let (a, b) = k (omega (arith, ltb-true v n t)) in
           rw (below-test bs p v q e true t) (v ∷ [], (t, refl), rw (a, b) (spells-one bs p (w .0))))
-          (λ t. faulty bs why h w (omega arith) (below-test bs p v q e false t))
+          (λ t. faulty bs why h w (omega arith) (λ z. absurd (omega arith)) (below-test bs p v q e false t))
           (cases (ltb v n)))
           (number-whole bs p w)
 
@@ -305,7 +309,7 @@ module _ {A : Type 0} where
   abbrev Two : ℕ → ℕ → (ℕ → ℕ → A) → A → List ℕ → Type 0
   Two m n con a zs = (i : ℕ) × (j : ℕ) × ((ltb i m && ltb j n) ≡ true) × (a ≡ con i j) × (zs ≡ i ∷ j ∷ [])
 
-module _ {A : Type 0} (m why : ℕ) (fit : (m ≤ 128) × (1 < why) × (why < 6)) where
+module _ {A : Type 0} (m why : ℕ) (fit : (m ≤ 128) × (2 < why) × (why < 6)) where
   reads-one : (con : ℕ → A) (p : ℕ) → Reads p (One m con) (λ bs. then (belowAt bs m why p) (λ i q. taken (con i) q))
   reads-one con p =
       reads-same
@@ -697,16 +701,49 @@ refused-early bs more n p h g e =
     (read-refused bs n p e)
 
 -- 1: the sheet ends before a number, or inside one that was begun
-pub refused-end : (bs : List ℕ) (p : ℕ) → readSheet bs ≡ refused 1 p → (p ≡ length bs) ⊎ ((suc p ≡ length bs) × (128 ≤ getD bs p 0))
+pub refused-end : (bs : List ℕ) (p : ℕ) → readSheet bs ≡ refused 1 p → Ends bs p
 refused-end bs p e = ⊎-elim (λ a. front-refused bs 1 p a .ends refl) (λ (s, six, h, a). absurd (omega arith)) (read-refused bs 1 p e)
 
+-- 2: a badly formed number
+pub refused-badly : (bs : List ℕ) (p : ℕ) → readSheet bs ≡ refused 2 p → BadlyFormed bs p
+refused-badly bs p e = ⊎-elim (λ a. front-refused bs 2 p a .badly refl) (λ (s, six, h, a). absurd (omega arith)) (read-refused bs 2 p e)
+
 -- 6: a whole sheet, and bytes behind it
-pub refused-spare : (bs : List ℕ) (p : ℕ)
-    → (readSheet bs ≡ refused 6 p) ↔ ((s : Sheet) × (wellFormed s ≡ true) × (inLimits s ≡ true) × (take p bs ≡ bytesOf s) × (p < length bs))
+pub refused-spare : (bs : List ℕ) (p : ℕ) → (readSheet bs ≡ refused 6 p) ↔ ((s : Sheet) × LaidOut s (take p bs) × (p < length bs))
 refused-spare bs p = (
   λ e. ⊎-elim
       (λ a. absurd (let r = front-refused bs 6 p a in omega arith))
-      (λ (s, six, h, a). let (w, l, x, _) = front-taken bs s p .0 a in (s, w, l, x, h))
+      (λ (s, six, h, a). let (w, l, x, _) = front-taken bs s p .0 a in (s, (w, l, x), h))
       (read-refused bs 6 p e),
-  λ (s, w, l, e, h). read-spare bs s p (front-taken bs s p .1 (w, l, e, omega arith)) h,
+  λ (s, (w, l, e), h). read-spare bs s p (front-taken bs s p .1 (w, l, e, omega arith)) h,
 )
+
+-- the bytes of a sheet are read as that sheet
+pub laid-read : (bs : List ℕ) (s : Sheet) → LaidOut s bs → readSheet bs ≡ taken s (length bs)
+laid-read bs s (w, l, e) = accepted-is bs s (length bs) .1 (w, l, e, refl)
+
+-- refused exactly if they are those of no sheet
+refused-is : (bs : List ℕ) → ((n : ℕ) × (p : ℕ) × (readSheet bs ≡ refused n p)) ↔ ((s : Sheet) → LaidOut s bs → ⊥)
+refused-is bs = (
+  λ (n, p, e) s h. not-both bs n p (length bs) s e (laid-read bs s h),
+  λ none. ⊎-elim (λ r. r) (λ (s, p, e). let (w, l, x, _) = accepted-is bs s p .0 e in absurd (none s (w, l, x))) (one-outcome bs),
+)
+
+-- all this of an answer that says what the reading says
+pub faults-of : (bs : List ℕ) (R : ℕ → ℕ → Type 0) → ((n p : ℕ) → n < 7 → R n p ↔ (readSheet bs ≡ refused n p)) → FaultsOf bs R
+faults-of bs R is =
+    record {
+      as-read = is;
+      no-sheet = (
+        λ (n, p, h, r). refused-is bs .0 (n, p, is n p h .0 r),
+        λ none.
+            let (n, p, e) = refused-is bs .1 none in
+            let (_, h, _) = refused-range bs n p e in
+            (n, p, h, is n p h .1 e),
+      );
+      place = λ n p h r. let (low, _, within) = refused-range bs n p (is n p h .0 r) in (low, within);
+      one = λ p r. refused-end bs p (is 1 p (omega arith) .0 r);
+      two = λ p r. refused-badly bs p (is 2 p (omega arith) .0 r);
+      six = λ p. ((λ r. refused-spare bs p .0 (is 6 p (omega arith) .0 r)), λ h. is 6 p (omega arith) .1 (refused-spare bs p .1 h));
+      first = λ n p low high r more. refused-early bs more n p low high (is n p (omega arith) .0 r);
+    }
