@@ -1,9 +1,9 @@
 -- What the public functions promise: the whole reply (`exact`), and beside it the demands in words that do not compute the reply.
 -- The demands of the customer, and document 01, "Pinning every answer down". Definitions only; Theorems.Promises has the proofs.
 --
--- What these words still rest on: `wellFormed`, `inLimits` and `bytesOf` (which bytes are a sheet); `readSheet`, which alone tells 3, 4 and 5 apart and all
--- their places; `meets`, `truth` and `Forces` (Meaning); `decoded` and `Shaped` (Model); `withRules` and `within` (Causes); `bound` (Seeds); and for 13
--- `settledJoints`, `expansions` and `asks`, document 01's steps in their order. Which model and which words are written, only `exact` says.
+-- What these words still rest on: `wellFormed`, `inLimits` and `bytesOf` (which bytes are a sheet); `readSheet`, which alone tells 3, 4 and 5 apart;
+-- `meets`, `truth` and `Forces` (Meaning); `decoded` and `Shaped` (Model); `withRules` and `within` (Causes); `bound` (Seeds); and for 13 `settledJoints`,
+-- `expansions` and `asks`, document 01's steps in their order. Which of the models is written, `exact` alone says.
 use Prim.Native.Nat.{ℕ, suc, _+_, _^_, _≤_, _<_}
 use mathlib.Core.Bool.{true}
 use mathlib.Core.Path.{_≡_}
@@ -38,6 +38,7 @@ BadlyFormed bs p = (suc p < length bs) × (128 ≤ getD bs p 0) × ((getD bs (su
 
 -- the answers 1 to 6, where `R n p` says that the answer has number n and place p
 pub record FaultsOf (bs : List ℕ) (R : ℕ → ℕ → Type 0) : Type 0 where
+  -- number and place are those of the layout
   pub as-read : (n p : ℕ) → n < 7 → R n p ↔ (readSheet bs ≡ refused n p)
   -- one of them exactly if these are the bytes of no sheet
   pub no-sheet : ((n : ℕ) × (p : ℕ) × (n < 7) × R n p) ↔ ((s : Sheet) → LaidOut s bs → ⊥)
@@ -46,8 +47,9 @@ pub record FaultsOf (bs : List ℕ) (R : ℕ → ℕ → Type 0) : Type 0 where
   pub two : (p : ℕ) → R 2 p → BadlyFormed bs p
   -- a whole sheet, and bytes behind it
   pub six : (p : ℕ) → R 6 p ↔ ((s : Sheet) × LaidOut s (take p bs) × (p < length bs))
-  -- "the first fault answers": with other bytes behind the faulty number the refusal is the same
-  pub first : (n p : ℕ) → 1 < n → n < 6 → R n p → (more : List ℕ) → readSheet (take (2 + p) bs ++ more) ≡ refused n p
+  -- "the first fault answers": no bytes from its place on bring a fault before it, and with other bytes behind the faulty number it is the same
+  pub first : (n p : ℕ) → n < 7 → R n p → (more : List ℕ) (m q : ℕ) → readSheet (take p bs ++ more) ≡ refused m q → p ≤ q
+  pub behind : (n p : ℕ) → 1 < n → n < 6 → R n p → (more : List ℕ) → readSheet (take (2 + p) bs ++ more) ≡ refused n p
 
 -- ---- 13, "out of space: the records needed outnumber those lent"
 -- "settled joint labels, in order, up to and including the first whose seeds are all satisfiable (all of them if there is none)": before J none is so
@@ -63,7 +65,7 @@ pub record MoreSeeds (s : Sheet) (xs : List Entry) (room : ℕ) : Type 0 where
   pub reached : (l : Label) → l ∈ found → Reached s joints l
   pub more : room < length found
 
--- ---- what was lent
+-- ---- the buffers
 -- what was lent is in order: at most 4,096 records, and no fewer mark bytes
 abbrev pub LentWell : List ℕ → List ℕ → Type 0
 LentWell rs ms = (length rs ≤ mostRecords) × (length rs ≤ length ms)

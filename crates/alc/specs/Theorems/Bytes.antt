@@ -60,17 +60,26 @@ module _ (bs : List ℕ) where
         record { long = omega (arith, length-append xs ys); inside = w .inside; spelled = ap (λ (r : List ℕ). r ++ ys) (sym front) ∙ whole },
       )
 
-  -- the same in any bytes that begin so
+  -- other bytes behind place m, and the same in front of it
+  same-front : (m : ℕ) (more : List ℕ) (j : ℕ) → j ≤ m → j ≤ length bs → (take j (take m bs ++ more) ≡ take j bs) × (j ≤ length (take m bs ++ more))
+  same-front m more j h g = (
+    take-append-le j (take m bs) more (omega (arith, length-take m bs)) ∙ take-take j m bs h,
+    omega (arith, length-append (take m bs) more, length-take m bs),
+  )
+
+  -- what bs spells there, they spell
   spells-early : (p q m : ℕ) (xs more : List ℕ) → q ≤ m → Spells bs p xs q → Spells (take m bs ++ more) p xs q
   spells-early p q m xs more h w =
-      record {
-        long = w .long;
-        inside = omega (arith, length-append (take m bs) more, length-take m bs);
-        spelled = rw (same p (omega arith), same q (omega arith)) (w .spelled);
-      }
-    where
-      same : (j : ℕ) → j ≤ q → take j (take m bs ++ more) ≡ take j bs
-      same j g = take-append-le j (take m bs) more (omega (arith, length-take m bs)) ∙ take-take j m bs (omega arith)
+      let (e, _) = same-front m more p (omega arith) (omega arith) in
+      let (f, inside) = same-front m more q h (w .inside) in
+      record { long = w .long; inside = inside; spelled = rw (e, f) (w .spelled) }
+
+  -- and what they spell, bs spells
+  early-spells : (p q m : ℕ) (xs more : List ℕ) → q ≤ m → m ≤ length bs → Spells (take m bs ++ more) p xs q → Spells bs p xs q
+  early-spells p q m xs more h g w =
+      let (e, _) = same-front m more p (omega arith) (omega arith) in
+      let (f, _) = same-front m more q h (omega arith) in
+      record { long = w .long; inside = omega arith; spelled = rw (← e, ← f) (w .spelled) }
 
 -- ---- readers, which have a place p: F reads the bytes, and R a xs says that value a may be read, from the bytes xs
 module _ {A : Type 0} where
@@ -83,6 +92,7 @@ module _ {A : Type 0} where
     ends : n ≡ 1 → Ends bs k
     badly : n ≡ 2 → BadlyFormed bs k
     early : 1 < n → (more : List ℕ) → F (take (2 + k) bs ++ more) ≡ refused n k
+    before : (more : List ℕ) (m j : ℕ) → F (take k bs ++ more) ≡ refused m j → k ≤ j
 
   -- what a reading of bs at place p tells
   abbrev Outcome : ℕ → (A → List ℕ → Type 0) → (List ℕ → Read A) → List ℕ → Read A → Type 0
@@ -123,9 +133,18 @@ module _ {A B : Type 0} where
   -- a refusal by a part is one by the whole
   passed : {p q n k : ℕ} {F : List ℕ → Read A} {G : List ℕ → Read B} {bs : List ℕ}
       → p ≤ q → Refusal q F bs n k → ((more : List ℕ) → F (take (2 + k) bs ++ more) ≡ refused n k → G (take (2 + k) bs ++ more) ≡ refused n k)
-      → Refusal p G bs n k
-  passed h o g =
-      record { low = o .low; high = o .high; after = omega arith; within = o .within; ends = o .ends; badly = o .badly; early = λ u more. g more (o .early u more) }
+      → ((more : List ℕ) (m j : ℕ) → G (take k bs ++ more) ≡ refused m j → k ≤ j) → Refusal p G bs n k
+  passed h o g b =
+      record {
+        low = o .low;
+        high = o .high;
+        after = omega arith;
+        within = o .within;
+        ends = o .ends;
+        badly = o .badly;
+        early = λ u more. g more (o .early u more);
+        before = b;
+      }
 
 module _ {A B : Type 0} where
   -- the bytes of an a, and behind them what is read after it
@@ -138,7 +157,7 @@ module _ {A B : Type 0} where
       → Reads p (Then Ok bytes R) (λ bs. then (F bs) (λ a q. G a q bs))
   reads-then {p} {Ok} {bytes} {R} {F} {G} f g =
       record {
-        outcome = λ bs h. first bs (F bs) (f .outcome bs h);
+        outcome = λ bs h. first bs (F bs) refl (f .outcome bs h);
         complete = λ bs b zs t (a, ys, v, r, e) w.
             let (w₁, w₂) = spells-split bs p t (bytes a) ys (rw e at w) in
             rw (f .complete bs a (bytes a) (p + length (bytes a)) (v, refl) w₁) (g a (p + length (bytes a)) v .complete bs b ys t r w₂);
@@ -150,14 +169,35 @@ module _ {A B : Type 0} where
       second : (bs : List ℕ) (a : A) (q : ℕ) → Ok a → Spells bs p (bytes a) q → (r : Read B) → Outcome q (R a) (G a q) bs r
           → Outcome p (Then Ok bytes R) both bs r
       second bs a q v w (refused n k) o =
-          passed (omega arith) o (λ more e.
+          passed (omega arith) o
+          (λ more e.
           let w′ = spells-early bs p q (2 + k) (bytes a) more (omega arith) w in
           rw (f .complete (take (2 + k) bs ++ more) a (bytes a) q (v, refl) w′) e)
+          (λ more m j e.
+          let w′ = spells-early bs p q k (bytes a) more (o .after) w in
+          let read = f .complete (take k bs ++ more) a (bytes a) q (v, refl) w′ in
+          o .before more m j (sym (ap (λ (x : Read A). then x (λ a q. G a q (take k bs ++ more))) read) ∙ e))
       second bs a q v w (taken b t) (ys, r, z) = (bytes a ++ ys, (a, ys, v, r, refl), spells-append bs p q t (bytes a) ys w z)
 
-      first : (bs : List ℕ) (r : Read A) → Outcome p (Exactly Ok bytes) F bs r → Outcome p (Then Ok bytes R) both bs (then r (λ a q. G a q bs))
-      first bs (refused n k) o = passed (omega arith) o (λ more e. rw e)
-      first bs (taken a q) (xs, (v, e), w) = second bs a q v (rw e at w) (G a q bs) (g a q v .outcome bs (w .inside))
+      -- with other bytes from the first reader's fault on, no fault comes earlier
+      earlier : (bs : List ℕ) (n k : ℕ) → F bs ≡ refused n k → Refusal p F bs n k → (more : List ℕ) (m j : ℕ) (r : Read A) → F (take k bs ++ more) ≡ r
+          → Outcome p (Exactly Ok bytes) F (take k bs ++ more) r → then r (λ a q. G a q (take k bs ++ more)) ≡ refused m j → k ≤ j
+      earlier bs n k is o more m j (refused i h) eq _ e = let same : h ≡ j = cc in omega (arith, o .before more i h eq)
+      earlier bs n k is o more m j (taken a q) eq (xs, (v, x), w) e =
+          let behind : Refusal q (G a q) (take k bs ++ more) m j = subst (Outcome q (R a) (G a q) (take k bs ++ more)) e (g a q v .outcome _ (w .inside)) in
+          elim (decLt q k) [
+            | no far ↦ omega (arith, behind .after)
+            | yes near ↦
+                let read = f .complete bs a xs q (v, x) (early-spells bs p q k xs more (omega arith) (o .within) w) in
+                absurd (let z : _≡_ {A = ℕ} 0 1 = cc in omega arith)
+          ]
+
+      first : (bs : List ℕ) (r : Read A) → F bs ≡ r → Outcome p (Exactly Ok bytes) F bs r → Outcome p (Then Ok bytes R) both bs (then r (λ a q. G a q bs))
+      first bs (refused n k) is o =
+          passed (omega arith) o (λ more e. rw e)
+          (λ more m j e. earlier bs n k is o more m j (F (take k bs ++ more)) refl
+          (f .outcome (take k bs ++ more) (omega (arith, o .after, same-front bs k more k (omega arith) (o .within) .1))) e)
+      first bs (taken a q) _ (xs, (v, e), w) = second bs a q v (rw e at w) (G a q bs) (g a q v .outcome bs (w .inside))
 
 -- ---- numbers
 -- a number of one byte, or of two that are there
@@ -201,18 +241,15 @@ module _ (bs : List ℕ) (p : ℕ) where
       (cases (eqb c 0 || ltb 127 c))
 
   -- a number is whole, or the sheet ends
-  number-is : p ≤ length bs → Whole bs p ⊎ ((k : ℕ) × (p ≤ k) × (k ≤ length bs) × Ends bs k × (numberAt bs p ≡ refused 1 k))
+  number-is : p ≤ length bs → Whole bs p ⊎ (Ends bs p × (numberAt bs p ≡ refused 1 p))
   unfolding numberAt
   number-is h = elim (decLt p (length bs)) [
-    | no a ↦ inr (length bs, h, omega arith, inl refl, rw (le-ltb p (length bs) (omega arith), numberAt))
+    | no a ↦ let end : length bs ≡ p = omega arith in inr (inl (sym end), rw (le-ltb p (length bs) (omega arith), numberAt) (ap (refused 1) end))
     | yes a ↦ elim (decLt (getD bs p 0) 128) [
       | yes b ↦ inl (a, inl b)
       | no b ↦ elim (decLt (suc p) (length bs)) [
         | yes c ↦ inl (a, inr (c, omega arith))
         | no c ↦ inr (
-          p,
-          omega arith,
-          h,
           inr (omega arith, omega arith),
           rw (lt-ltb p (length bs) a, le-ltb (getD bs p 0) 128 (omega arith), le-ltb (suc p) (length bs) (omega arith), numberAt),
         )
@@ -248,7 +285,7 @@ module _ (n why : ℕ) (fit : (n ≤ 128) × (2 < why) × (why < 6)) where
   unfolding belowAt
   reads-below p =
       record {
-        outcome = λ bs h. ⊎-elim (begun bs h) (ended bs) (number-is bs p h);
+        outcome = λ bs h. ⊎-elim (begun bs h) (ended bs h) (number-is bs p h);
         complete = λ bs v xs q (t, e) w.
             let (h, g, k) = one-spelled bs p v q (rw e at w) in
             let l : v < n = ltb-true v n t in
@@ -258,16 +295,37 @@ module _ (n why : ℕ) (fit : (n ≤ 128) × (2 < why) × (why < 6)) where
       Out : List ℕ → Type 0
       Out bs = Outcome p (Exactly (λ v. ltb v n ≡ true) (λ v. v ∷ [])) (λ bs. belowAt bs n why p) bs (belowAt bs n why p)
 
-      ended : (bs : List ℕ) → ((k : ℕ) × (p ≤ k) × (k ≤ length bs) × Ends bs k × (numberAt bs p ≡ refused 1 k)) → Out bs
-      ended bs (k, a, b, c, e) = rw e (record {
+      -- a refusal is nowhere before p
+      not-before : (bs : List ℕ) (m j : ℕ) → p ≤ length bs → belowAt bs n why p ≡ refused m j → p ≤ j
+      not-before bs m j h e =
+          ⊎-elim
+          (λ w. ⊎-elim
+          (λ ((f, _) : (numberAt bs p ≡ refused 2 p) × BadlyFormed bs p). at 2 (rw f))
+          (λ ((v, q, f, _) : (v : ℕ) × (q : ℕ) × (numberAt bs p ≡ taken v q) × (v < 128 → (v ≡ getD bs p 0) × (q ≡ suc p))).
+          ⊎-elim
+          (λ t. absurd (let z : _≡_ {A = ℕ} 0 1 = cc (below-test bs p v q f true t) in omega arith))
+          (λ t. at why (below-test bs p v q f false t))
+          (cases (ltb v n)))
+          (number-whole bs p w))
+          (λ ((_, f) : Ends bs p × (numberAt bs p ≡ refused 1 p)). at 1 (rw f))
+          (number-is bs p h)
+        where
+          at : (i : ℕ) → belowAt bs n why p ≡ refused i p → p ≤ j
+          at i f = let same : p ≡ j = cc in omega arith
+
+      nothing-before : (bs : List ℕ) → p ≤ length bs → (more : List ℕ) (m j : ℕ) → belowAt (take p bs ++ more) n why p ≡ refused m j → p ≤ j
+      nothing-before bs h more m j = not-before (take p bs ++ more) m j (same-front bs p more p (omega arith) h .1)
+
+      ended : (bs : List ℕ) → p ≤ length bs → Ends bs p × (numberAt bs p ≡ refused 1 p) → Out bs
+      ended bs h (c, e) = rw e (record {
         low = omega arith;
         high = omega arith;
-        after = a;
-        within = b;
+        after = omega arith;
+        within = h;
         ends = λ _. c;
         badly = λ z. absurd (omega arith);
-        early = λ z more. absurd
-            (omega arith);
+        early = λ z more. absurd (omega arith);
+        before = nothing-before bs h;
       })
 
       -- a whole number that is refused
@@ -281,6 +339,7 @@ module _ (n why : ℕ) (fit : (n ≤ 128) × (2 < why) × (why < 6)) where
             ends = λ z. absurd (omega arith);
             badly = b;
             early = λ _ more. rw (number-early bs p more w) e;
+            before = nothing-before bs h;
           })
 
       begun : (bs : List ℕ) → p ≤ length bs → Whole bs p → Out bs
@@ -700,6 +759,36 @@ refused-early bs more n p h g e =
     (λ (s, six, h, a). absurd (omega arith))
     (read-refused bs n p e)
 
+-- and no bytes from its place on bring a fault in front of it
+pub refused-before : (bs more : List ℕ) (n p : ℕ) → readSheet bs ≡ refused n p → (m q : ℕ) → readSheet (take p bs ++ more) ≡ refused m q → p ≤ q
+refused-before bs more n p e m q f =
+    ⊎-elim
+    (λ a. let r = front-refused bs n p a in ⊎-elim (λ b. r .before more m q b) (λ (s, _, _, b). whole-sheet s a b) (read-refused changed m q f))
+    (λ (s, _, h, a).
+    let (w, l, x, _) = front-taken bs s p .0 a in
+    let (same, inside) = same-front bs p more p (omega arith) (omega arith) in
+    let c : sectionsAt changed ≡ taken s p = front-taken changed s p .1 (w, l, same ∙ x, inside) in
+    ⊎-elim
+    (λ b. absurd (let z : _≡_ {A = ℕ} 0 1 = cc in omega arith))
+    (λ (t, _, _, b). let same : p ≡ q = cc in omega arith)
+    (read-refused changed m q f))
+    (read-refused bs n p e)
+  where
+    changed : List ℕ
+    changed = take p bs ++ more
+
+    -- a whole sheet in front of the fault would have been read
+    whole-sheet : (s : Sheet) → sectionsAt bs ≡ refused n p → sectionsAt changed ≡ taken s q → p ≤ q
+    whole-sheet s a b =
+        let within = front-refused bs n p a .within in
+        let (w, l, x, _) = front-taken changed s q .0 b in
+        elim (decLt q p) [
+          | no far ↦ omega arith
+          | yes near ↦
+              let c = front-taken bs s q .1 (w, l, sym (same-front bs p more q (omega arith) (omega arith) .0) ∙ x, omega arith) in
+              absurd (let z : _≡_ {A = ℕ} 0 1 = cc in omega arith)
+        ]
+
 -- 1: the sheet ends before a number, or inside one that was begun
 pub refused-end : (bs : List ℕ) (p : ℕ) → readSheet bs ≡ refused 1 p → Ends bs p
 refused-end bs p e = ⊎-elim (λ a. front-refused bs 1 p a .ends refl) (λ (s, six, h, a). absurd (omega arith)) (read-refused bs 1 p e)
@@ -745,5 +834,6 @@ faults-of bs R is =
       one = λ p r. refused-end bs p (is 1 p (omega arith) .0 r);
       two = λ p r. refused-badly bs p (is 2 p (omega arith) .0 r);
       six = λ p. ((λ r. refused-spare bs p .0 (is 6 p (omega arith) .0 r)), λ h. is 6 p (omega arith) .1 (refused-spare bs p .1 h));
-      first = λ n p low high r more. refused-early bs more n p low high (is n p (omega arith) .0 r);
+      first = λ n p h r more. refused-before bs more n p (is n p h .0 r);
+      behind = λ n p low high r more. refused-early bs more n p low high (is n p (omega arith) .0 r);
     }
