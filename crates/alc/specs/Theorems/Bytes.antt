@@ -17,7 +17,7 @@ use Rattle.alc.specs.Sheet.{classesWell, rolesWell, wellFormed, inLimits
 use Rattle.alc.specs.Bytes.{Read, refused, taken, then, numberAt, belowAt, operandsAt, lineAt, ruleAt, classAt, roleAt, severalAt, countedAt, sectionsAt}
 use Rattle.alc.specs.Bytes.{readSheet, lineBytes, ruleBytes, classBytes, roleBytes, bytesOf}
 use Rattle.alc.specs.Promises.{LaidOut, Ends, BadlyFormed, FaultsOf}
-use Rattle.alc.specs.Theorems.Lists.{cases, or-cases, or-false-left, and-left, and-right, and-both, one-true}
+use Rattle.alc.specs.Theorems.Lists.{cases, or-cases, or-false-left, or-false-right, and-left, and-right, and-both, one-true}
 
 -- from place p to place q the bytes are xs
 record Spells (bs : List ℕ) (p : ℕ) (xs : List ℕ) (q : ℕ) : Type 0 where
@@ -89,8 +89,8 @@ module _ {A : Type 0} where
     high : n < 6
     after : p ≤ k
     within : k ≤ length bs
-    ends : n ≡ 1 → Ends bs k
-    badly : n ≡ 2 → BadlyFormed bs k
+    ends : (n ≡ 1) ↔ Ends bs k
+    badly : (n ≡ 2) ↔ BadlyFormed bs k
     early : 1 < n → (more : List ℕ) → F (take (2 + k) bs ++ more) ≡ refused n k
     before : (more : List ℕ) (m j : ℕ) → F (take k bs ++ more) ≡ refused m j → k ≤ j
 
@@ -204,6 +204,10 @@ module _ {A B : Type 0} where
 abbrev Whole : List ℕ → ℕ → Type 0
 Whole bs p = (p < length bs) × ((getD bs p 0 < 128) ⊎ ((suc p < length bs) × (128 ≤ getD bs p 0)))
 
+-- a well-formed number; below 128 it is its one byte
+abbrev Value : List ℕ → ℕ → Type 0
+Value bs p = (v : ℕ) × (q : ℕ) × (numberAt bs p ≡ taken v q) × (v < 128 → (v ≡ getD bs p 0) × (q ≡ suc p)) × (BadlyFormed bs p → ⊥)
+
 -- a number of two bytes b and c
 two : ℕ → ℕ → ℕ → Read ℕ
 two p b c = elim (eqb c 0 || ltb 127 c) [ true ↦ refused 2 p | false ↦ taken (b - 128 + 128 * c) (suc (suc p)) ]
@@ -219,10 +223,9 @@ module _ (bs : List ℕ) (p : ℕ) where
   number-two h k g = rw (lt-ltb p (length bs) h, le-ltb (getD bs p 0) 128 g, lt-ltb (suc p) (length bs) k, numberAt)
 
   -- what a whole number gives: two bytes may be badly formed, and are 128 or more
-  number-whole : Whole bs p → ((numberAt bs p ≡ refused 2 p) × BadlyFormed bs p)
-      ⊎ ((v : ℕ) × (q : ℕ) × (numberAt bs p ≡ taken v q) × (v < 128 → (v ≡ getD bs p 0) × (q ≡ suc p)))
+  number-whole : Whole bs p → ((numberAt bs p ≡ refused 2 p) × BadlyFormed bs p) ⊎ Value bs p
   unfolding two
-  number-whole (h, inl g) = inr (getD bs p 0, suc p, number-one h g, λ _. (refl, refl))
+  number-whole (h, inl g) = inr (getD bs p 0, suc p, number-one h g, (λ _. (refl, refl)), λ (_, b, _). omega arith)
   number-whole (h, inr (k, g)) =
       let c = getD bs (suc p) 0 in
       ⊎-elim
@@ -235,10 +238,18 @@ module _ (bs : List ℕ) (p : ℕ) where
         getD bs p 0 - 128 + 128 * c,
         suc (suc p),
         rw (number-two h k g, two, e),
-        λ u. absurd
-            (omega (arith, eqb-false c 0 (or-false-left (eqb c 0) (ltb 127 c) e))),
+        (λ u. absurd (omega (arith, not-zero e))),
+        λ (_, _, b). ⊎-elim (not-zero e) (λ z. omega (arith, ltb-false 127 c (or-false-right (eqb c 0) (ltb 127 c) e))) b,
       ))
       (cases (eqb c 0 || ltb 127 c))
+    where
+      not-zero : (eqb (getD bs (suc p) 0) 0 || ltb 127 (getD bs (suc p) 0)) ≡ false → getD bs (suc p) 0 ≡ 0 → ⊥
+      not-zero e = eqb-false (getD bs (suc p) 0) 0 (or-false-left (eqb (getD bs (suc p) 0) 0) (ltb 127 (getD bs (suc p) 0)) e)
+
+  -- and does not end the sheet
+  whole-goes-on : Whole bs p → Ends bs p → ⊥
+  whole-goes-on (h, w) (inl e) = omega arith
+  whole-goes-on (h, w) (inr (e, g)) = ⊎-elim (λ b. omega arith) (λ (k, _). omega arith) w
 
   -- a number is whole, or the sheet ends
   number-is : p ≤ length bs → Whole bs p ⊎ (Ends bs p × (numberAt bs p ≡ refused 1 p))
@@ -301,7 +312,7 @@ module _ (n why : ℕ) (fit : (n ≤ 128) × (2 < why) × (why < 6)) where
           ⊎-elim
           (λ w. ⊎-elim
           (λ ((f, _) : (numberAt bs p ≡ refused 2 p) × BadlyFormed bs p). at 2 (rw f))
-          (λ ((v, q, f, _) : (v : ℕ) × (q : ℕ) × (numberAt bs p ≡ taken v q) × (v < 128 → (v ≡ getD bs p 0) × (q ≡ suc p))).
+          (λ ((v, q, f, _, _) : Value bs p).
           ⊎-elim
           (λ t. absurd (let z : _≡_ {A = ℕ} 0 1 = cc (below-test bs p v q f true t) in omega arith))
           (λ t. at why (below-test bs p v q f false t))
@@ -322,21 +333,21 @@ module _ (n why : ℕ) (fit : (n ≤ 128) × (2 < why) × (why < 6)) where
         high = omega arith;
         after = omega arith;
         within = h;
-        ends = λ _. c;
-        badly = λ z. absurd (omega arith);
+        ends = (λ _. c, λ _. refl);
+        badly = (λ z. absurd (omega arith), λ (b, _, _). absurd (⊎-elim (λ e. omega arith) (λ (e, _). omega arith) c));
         early = λ z more. absurd (omega arith);
         before = nothing-before bs h;
       })
 
       -- a whole number that is refused
-      faulty : (bs : List ℕ) (k : ℕ) → p ≤ length bs → Whole bs p → (1 < k) × (k < 6) → (k ≡ 2 → BadlyFormed bs p) → belowAt bs n why p ≡ refused k p → Out bs
+      faulty : (bs : List ℕ) (k : ℕ) → p ≤ length bs → Whole bs p → (1 < k) × (k < 6) → ((k ≡ 2) ↔ BadlyFormed bs p) → belowAt bs n why p ≡ refused k p → Out bs
       faulty bs k h w g b e =
           rw e (record {
             low = omega arith;
             high = g .1;
             after = omega arith;
             within = h;
-            ends = λ z. absurd (omega arith);
+            ends = (λ z. absurd (omega arith), λ z. absurd (whole-goes-on bs p w z));
             badly = b;
             early = λ _ more. rw (number-early bs p more w) e;
             before = nothing-before bs h;
@@ -345,13 +356,13 @@ module _ (n why : ℕ) (fit : (n ≤ 128) × (2 < why) × (why < 6)) where
       begun : (bs : List ℕ) → p ≤ length bs → Whole bs p → Out bs
       begun bs h w =
           ⊎-elim
-          (λ (e, b). faulty bs 2 h w (omega arith) (λ _. b) (rw e))
-          (λ ((v, q, e, k) : (v : ℕ) × (q : ℕ) × (numberAt bs p ≡ taken v q) × (v < 128 → (v ≡ getD bs p 0) × (q ≡ suc p))).
+          (λ (e, b). faulty bs 2 h w (omega arith) (λ _. b, λ _. refl) (rw e))
+          (λ ((v, q, e, k, well) : Value bs p).
           ⊎-elim
           (λ (t : ltb v n ≡ true).
           let (a, b) = k (omega (arith, ltb-true v n t)) in
           rw (below-test bs p v q e true t) (v ∷ [], (t, refl), rw (a, b) (spells-one bs p (w .0))))
-          (λ t. faulty bs why h w (omega arith) (λ z. absurd (omega arith)) (below-test bs p v q e false t))
+          (λ t. faulty bs why h w (omega arith) (λ z. absurd (omega arith), λ b. absurd (well b)) (below-test bs p v q e false t))
           (cases (ltb v n)))
           (number-whole bs p w)
 
@@ -790,12 +801,12 @@ refused-before bs more n p e m q f =
         ]
 
 -- 1: the sheet ends before a number, or inside one that was begun
-pub refused-end : (bs : List ℕ) (p : ℕ) → readSheet bs ≡ refused 1 p → Ends bs p
-refused-end bs p e = ⊎-elim (λ a. front-refused bs 1 p a .ends refl) (λ (s, six, h, a). absurd (omega arith)) (read-refused bs 1 p e)
+pub refused-end : (bs : List ℕ) (n p : ℕ) → n < 6 → readSheet bs ≡ refused n p → (n ≡ 1) ↔ Ends bs p
+refused-end bs n p h e = ⊎-elim (λ a. front-refused bs n p a .ends) (λ (s, six, _, a). absurd (omega arith)) (read-refused bs n p e)
 
 -- 2: a badly formed number
-pub refused-badly : (bs : List ℕ) (p : ℕ) → readSheet bs ≡ refused 2 p → BadlyFormed bs p
-refused-badly bs p e = ⊎-elim (λ a. front-refused bs 2 p a .badly refl) (λ (s, six, h, a). absurd (omega arith)) (read-refused bs 2 p e)
+pub refused-badly : (bs : List ℕ) (n p : ℕ) → n < 6 → readSheet bs ≡ refused n p → (n ≡ 2) ↔ BadlyFormed bs p
+refused-badly bs n p h e = ⊎-elim (λ a. front-refused bs n p a .badly) (λ (s, six, _, a). absurd (omega arith)) (read-refused bs n p e)
 
 -- 6: a whole sheet, and bytes behind it
 pub refused-spare : (bs : List ℕ) (p : ℕ) → (readSheet bs ≡ refused 6 p) ↔ ((s : Sheet) × LaidOut s (take p bs) × (p < length bs))
@@ -831,8 +842,8 @@ faults-of bs R is =
             (n, p, h, is n p h .1 e),
       );
       place = λ n p h r. let (low, _, within) = refused-range bs n p (is n p h .0 r) in (low, within);
-      one = λ p r. refused-end bs p (is 1 p (omega arith) .0 r);
-      two = λ p r. refused-badly bs p (is 2 p (omega arith) .0 r);
+      one = λ n p h r. refused-end bs n p h (is n p (omega arith) .0 r);
+      two = λ n p h r. refused-badly bs n p h (is n p (omega arith) .0 r);
       six = λ p. ((λ r. refused-spare bs p .0 (is 6 p (omega arith) .0 r)), λ h. is 6 p (omega arith) .1 (refused-spare bs p .1 h));
       first = λ n p h r more. refused-before bs more n p (is n p h .0 r);
       behind = λ n p low high r more. refused-early bs more n p low high (is n p (omega arith) .0 r);
