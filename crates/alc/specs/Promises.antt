@@ -43,7 +43,7 @@ pub record FaultsOf (bs : List ℕ) (R : ℕ → ℕ → Type 0) : Type 0 where
   -- one of them exactly if these are the bytes of no sheet
   pub no-sheet : ((n : ℕ) × (p : ℕ) × (n < 7) × R n p) ↔ ((s : Sheet) → LaidOut s bs → ⊥)
   pub place : (n p : ℕ) → n < 7 → R n p → (0 < n) × (p ≤ length bs)
-  -- of a fault at p it is 1 exactly if the sheet ends there, 2 exactly if the number there is badly formed; so 3 to 5 stand at a well-formed number
+  -- of 1 to 5 it is 1 exactly if the sheet ends at p, 2 exactly if the number there is badly formed; so 3 to 5 stand at a well-formed number
   pub one : (n p : ℕ) → n < 6 → R n p → (n ≡ 1) ↔ Ends bs p
   pub two : (n p : ℕ) → n < 6 → R n p → (n ≡ 2) ↔ BadlyFormed bs p
   -- a whole sheet, and bytes behind it
