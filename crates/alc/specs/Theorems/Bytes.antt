@@ -800,22 +800,26 @@ refused-before bs more n p e m q f =
               absurd (let z : _≡_ {A = ℕ} 0 1 = cc in omega arith)
         ]
 
--- 1: the sheet ends before a number, or inside one that was begun
-pub refused-end : (bs : List ℕ) (n p : ℕ) → n < 6 → readSheet bs ≡ refused n p → (n ≡ 1) ↔ Ends bs p
-refused-end bs n p h e = ⊎-elim (λ a. front-refused bs n p a .ends) (λ (s, six, _, a). absurd (omega arith)) (read-refused bs n p e)
+-- of 1 to 5 it is 1 exactly if the sheet ends before the number, or inside one that was begun
+end-is : (bs : List ℕ) (n p : ℕ) → n < 6 → readSheet bs ≡ refused n p → (n ≡ 1) ↔ Ends bs p
+end-is bs n p h e = ⊎-elim (λ a. front-refused bs n p a .ends) (λ (s, six, _, a). absurd (omega arith)) (read-refused bs n p e)
 
--- 2: a badly formed number
-pub refused-badly : (bs : List ℕ) (n p : ℕ) → n < 6 → readSheet bs ≡ refused n p → (n ≡ 2) ↔ BadlyFormed bs p
-refused-badly bs n p h e = ⊎-elim (λ a. front-refused bs n p a .badly) (λ (s, six, _, a). absurd (omega arith)) (read-refused bs n p e)
+pub refused-end : (bs : List ℕ) (p : ℕ) → readSheet bs ≡ refused 1 p → Ends bs p
+refused-end bs p e = end-is bs 1 p (omega arith) e .0 refl
+
+-- and 2 exactly if the number is badly formed
+badly-is : (bs : List ℕ) (n p : ℕ) → n < 6 → readSheet bs ≡ refused n p → (n ≡ 2) ↔ BadlyFormed bs p
+badly-is bs n p h e = ⊎-elim (λ a. front-refused bs n p a .badly) (λ (s, six, _, a). absurd (omega arith)) (read-refused bs n p e)
 
 -- 6: a whole sheet, and bytes behind it
-pub refused-spare : (bs : List ℕ) (p : ℕ) → (readSheet bs ≡ refused 6 p) ↔ ((s : Sheet) × LaidOut s (take p bs) × (p < length bs))
+pub refused-spare : (bs : List ℕ) (p : ℕ)
+    → (readSheet bs ≡ refused 6 p) ↔ ((s : Sheet) × (wellFormed s ≡ true) × (inLimits s ≡ true) × (take p bs ≡ bytesOf s) × (p < length bs))
 refused-spare bs p = (
   λ e. ⊎-elim
       (λ a. absurd (let r = front-refused bs 6 p a in omega arith))
-      (λ (s, six, h, a). let (w, l, x, _) = front-taken bs s p .0 a in (s, (w, l, x), h))
+      (λ (s, six, h, a). let (w, l, x, _) = front-taken bs s p .0 a in (s, w, l, x, h))
       (read-refused bs 6 p e),
-  λ (s, (w, l, e), h). read-spare bs s p (front-taken bs s p .1 (w, l, e, omega arith)) h,
+  λ (s, w, l, e, h). read-spare bs s p (front-taken bs s p .1 (w, l, e, omega arith)) h,
 )
 
 -- the bytes of a sheet are read as that sheet
@@ -842,9 +846,12 @@ faults-of bs R is =
             (n, p, h, is n p h .1 e),
       );
       place = λ n p h r. let (low, _, within) = refused-range bs n p (is n p h .0 r) in (low, within);
-      one = λ n p h r. refused-end bs n p h (is n p (omega arith) .0 r);
-      two = λ n p h r. refused-badly bs n p h (is n p (omega arith) .0 r);
-      six = λ p. ((λ r. refused-spare bs p .0 (is 6 p (omega arith) .0 r)), λ h. is 6 p (omega arith) .1 (refused-spare bs p .1 h));
+      one = λ n p h r. end-is bs n p h (is n p (omega arith) .0 r);
+      two = λ n p h r. badly-is bs n p h (is n p (omega arith) .0 r);
+      six = λ p. (
+        λ r. let (s, w, l, x, h) = refused-spare bs p .0 (is 6 p (omega arith) .0 r) in (s, (w, l, x), h),
+        λ (s, (w, l, x), h). is 6 p (omega arith) .1 (refused-spare bs p .1 (s, w, l, x, h)),
+      );
       first = λ n p h r more. refused-before bs more n p (is n p h .0 r);
       behind = λ n p low high r more. refused-early bs more n p low high (is n p (omega arith) .0 r);
     }
