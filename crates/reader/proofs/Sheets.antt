@@ -73,7 +73,7 @@ module _ (bs : List ℕ) (wanted : Read theory.Sheet) where
   pub sheet-refused : {r : Readout} {stop : Stop} {why : Reason} {p : ℕ} → r ≡ refusedSheet stop → stop ≡ Refused why p → wanted ≡ refused (reasonNumber why) p
       → ReadsAs bs wanted r
   sheet-refused {r} {stop} {why} {p} e s w =
-      rw (e ∙ ap refusedSheet s) (record { exact = sym w; tidy = ap formOf (sym (sheet-form emptySheet)); empty = λ _ _ _. refl })
+      rw (e ∙ ap refusedSheet s) (record { exact = sym w; clean = record { tidy = ap formOf (sym (sheet-form emptySheet)); empty = λ _ _ _. refl } })
 
   pub sheet-accepted : {r : Readout} {ls rs cs es : Section} {k : ℕ} → r ≡ acceptedSheet ls rs k cs es
       → Tidy lineTriple lineOf ls → Tidy ruleTriple ruleOf rs → Tidy classTriple classOf cs → Tidy roleTriple roleOf es
@@ -81,8 +81,10 @@ module _ (bs : List ℕ) (wanted : Read theory.Sheet) where
   unfolding formOf sheetOf
   sheet-accepted {r} {ls} {rs} {cs} {es} {k} e a b c d w = rw e (record {
     exact = sym w;
-    tidy = λ i. record { lines = a i; rules = b i; individuals = k; classes = c i; roles = d i };
-    empty = λ why p e. absurd (let z : _≡_ {A = ℕ} 0 1 = cc in omega arith);
+    clean = record {
+      tidy = λ i. record { lines = a i; rules = b i; individuals = k; classes = c i; roles = d i };
+      empty = λ why p e. absurd (let z : _≡_ {A = ℕ} 0 1 = cc in omega arith);
+    };
   })
 
 -- a sheet is its lines, its rules, and the facts behind them

@@ -7,6 +7,8 @@ use lib.ListN.{length, getD, replicate, length-map, List·getD-map}
 use Rattle.alc.specs.Lists.{from, upTo}
 use Rattle.alc.specs.Sheet.{Line, top, bottom, name, not, and, or, some, only, mostLines, mostRules, mostIndividuals, mostClasses, mostRoles}
 use Rattle.alc.specs.Sheet as theory
+use Rattle.alc.specs.Bytes.{taken, readSheet}
+use Rattle.alc.specs.Theorems.Bytes.{laid-read, faults-of}
 use Rattle.sheet.specs.declared.Reason.{Reason}
 use Rattle.sheet.specs.declared.Reason.the-variants.{Cut, BadlyFormed, OverLimit, TooLarge, NotThere, LeftOver, LentBadly, OffSheet}
 use Rattle.sheet.specs.declared.Section.{Section}
@@ -17,7 +19,7 @@ use Rattle.sheet.specs.declared.Readout.{Readout}
 use Rattle.sheet.specs.Form.{outcomeRead, reasonNumber, Triple, triple, padded, sectionForm, triples, lineOf, lineTriple, ruleOf, ruleTriple, classOf}
 use Rattle.sheet.specs.Form.{classTriple, roleOf, roleTriple, sheetOf, formOf, emptySheet}
 use Rattle.numbers.specs.Reading.{given}
-use Rattle.reader.specs.Promise.{ReadPromise}
+use Rattle.reader.specs.Promise.{ReadsAs, ReadPromise}
 use Rattle.reader.specs.Reading.{Counts, sheet-gives}
 
 -- ---- a list by its places
@@ -122,10 +124,25 @@ reason-back OffSheet = refl
 pub reason-one : (r t : Reason) → reasonNumber r ≡ reasonNumber t → r ≡ t
 reason-one r t e = sym (reason-back r) ∙ ap reasonOf e ∙ reason-back t
 
+-- ---- what reads as alc's reading keeps the promise
+module _ (bs : List ℕ) (r : Readout) (reads : ReadsAs bs (readSheet bs) r) where
+  accepted-as : (s : theory.Sheet) (o : Outcome) → r .outcome ≡ o → outcomeRead (sheetOf (r .sheet)) (length bs) o ≡ taken s (length bs)
+      → (r .outcome ≡ Accepted) × (sheetOf (r .sheet) ≡ s)
+  accepted-as s Accepted f e = (f, cc)
+  accepted-as s (Refused why at) f e = absurd (let z : _≡_ {A = ℕ} 0 1 = cc in omega arith)
+
+  pub read-kept : ReadPromise bs r
+  read-kept = record {
+    exact = reads .exact;
+    clean = reads .clean;
+    faults = faults-of bs _ (λ n p _. ((λ e. sym (reads .exact) ∙ e), λ e. reads .exact ∙ e));
+    accepted = λ s h. accepted-as s (r .outcome) refl (reads .exact ∙ laid-read bs s h);
+  }
+
 -- two readouts that keep the promise are one
 module _ (bs : List ℕ) (r t : Readout) (p : ReadPromise bs r) (q : ReadPromise bs t) where
   same-sheet : sheetOf (r .sheet) ≡ sheetOf (t .sheet) → r .sheet ≡ t .sheet
-  same-sheet e = p .tidy ∙ ap formOf e ∙ sym (q .tidy)
+  same-sheet e = p .clean .tidy ∙ ap formOf e ∙ sym (q .clean .tidy)
 
   made : r .sheet ≡ t .sheet → r .outcome ≡ t .outcome → r ≡ t
   made e o = λ i. record { sheet = e i; outcome = o i }
@@ -144,7 +161,7 @@ module _ (bs : List ℕ) (r t : Readout) (p : ReadPromise bs r) (q : ReadPromise
           let e = read f g in
           let n : reasonNumber why ≡ reasonNumber why′ = cc in
           let m : at ≡ at′ = cc in
-          made (p .empty why at f ∙ sym (q .empty why′ at′ g)) (f ∙ ap₂ {C = Outcome} Refused (reason-one why why′ n) m ∙ sym g)
+          made (p .clean .empty why at f ∙ sym (q .clean .empty why′ at′ g)) (f ∙ ap₂ {C = Outcome} Refused (reason-one why why′ n) m ∙ sym g)
 
 -- ---- the counts of the form that the reader gives: within the limits, so within the arrays
 pub record FormCounts (s : Sheet) : Type 0 where
@@ -172,4 +189,4 @@ read-counts bs r p = form-counts (r .sheet) (go (r .outcome) refl)
   where
     go : (o : Outcome) → r .outcome ≡ o → Counts (sheetOf (r .sheet))
     go Accepted e = given (sheet-gives bs) (sym (p .exact) ∙ ap (outcomeRead (sheetOf (r .sheet)) (length bs)) e)
-    go (Refused why at) e = rw (p .empty why at e, sheet-form emptySheet) empty-counts
+    go (Refused why at) e = rw (p .clean .empty why at e, sheet-form emptySheet) empty-counts

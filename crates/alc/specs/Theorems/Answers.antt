@@ -163,7 +163,6 @@ module _ (s : Sheet) (port class room : ℕ) where
     -- 13 exactly when some set, none of whose proper subsets forces, needs more records than lent
     pub causes-thirteen : (causesAnswer s port class room .number ≡ 13)
         ↔ ((n : ℕ) × (n < 2 ^ length (s .rules)) × NoSubsetForces s port class n × (room < length (recordsNeeded (withRules s n) (denial port class))))
-    unfolding NoSubsetForces
     causes-thirteen = (there-, back)
       where
         there- : causesAnswer s port class room .number ≡ 13 → (n : ℕ) × (n < 2 ^ length (s .rules)) × NoSubsetForces s port class n

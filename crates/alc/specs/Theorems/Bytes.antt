@@ -7,7 +7,7 @@ use mathlib.Core.List.{List, [], _∷_, _++_, append-assoc, append-nil}
 use lib.ListN.{length, getD, take, length-append, length-take}
 use lib.Seq.{take-all, append-snoc, take-suc, take-at, take-take, take-append-le, getD-at, getD-take, length-take-le}
 use lib.Dec.{ltb, eqb}
-use borrow.Author.Tests.{ltb-true, ltb-false, lt-ltb, le-ltb, eqb-false}
+use borrow.Author.Tests.{ltb-true, ltb-false, lt-ltb, le-ltb, eqb-true, eqb-false}
 use native.Mathlib.Decide.{decLt}
 use native.Mathlib.Omega.{arith}
 use Rattle.alc.specs.Lists.{each, all, from}
@@ -16,7 +16,8 @@ use Rattle.alc.specs.Sheet.{mostLines, mostRules, mostIndividuals, mostC
 use Rattle.alc.specs.Sheet.{classesWell, rolesWell, wellFormed, inLimits}
 use Rattle.alc.specs.Bytes.{Read, refused, taken, then, numberAt, belowAt, operandsAt, lineAt, ruleAt, classAt, roleAt, severalAt, countedAt, sectionsAt}
 use Rattle.alc.specs.Bytes.{readSheet, lineBytes, ruleBytes, classBytes, roleBytes, bytesOf}
-use Rattle.alc.specs.Theorems.Lists.{cases, or-false-left, and-left, and-right, and-both, one-true}
+use Rattle.alc.specs.Promises.{LaidOut, Ends, BadlyFormed, FaultsOf}
+use Rattle.alc.specs.Theorems.Lists.{cases, or-cases, or-false-left, or-false-right, and-left, and-right, and-both, one-true}
 
 -- from place p to place q the bytes are xs
 record Spells (bs : List ℕ) (p : ℕ) (xs : List ℕ) (q : ℕ) : Type 0 where
@@ -59,21 +60,26 @@ module _ (bs : List ℕ) where
         record { long = omega (arith, length-append xs ys); inside = w .inside; spelled = ap (λ (r : List ℕ). r ++ ys) (sym front) ∙ whole },
       )
 
-  -- the same in any bytes that begin so
+  -- other bytes behind place m, and the same in front of it
+  same-front : (m : ℕ) (more : List ℕ) (j : ℕ) → j ≤ m → j ≤ length bs → (take j (take m bs ++ more) ≡ take j bs) × (j ≤ length (take m bs ++ more))
+  same-front m more j h g = (
+    take-append-le j (take m bs) more (omega (arith, length-take m bs)) ∙ take-take j m bs h,
+    omega (arith, length-append (take m bs) more, length-take m bs),
+  )
+
+  -- what bs spells there, they spell
   spells-early : (p q m : ℕ) (xs more : List ℕ) → q ≤ m → Spells bs p xs q → Spells (take m bs ++ more) p xs q
   spells-early p q m xs more h w =
-      record {
-        long = w .long;
-        inside = omega (arith, length-append (take m bs) more, length-take m bs);
-        spelled = rw (same p (omega arith), same q (omega arith)) (w .spelled);
-      }
-    where
-      same : (j : ℕ) → j ≤ q → take j (take m bs ++ more) ≡ take j bs
-      same j g = take-append-le j (take m bs) more (omega (arith, length-take m bs)) ∙ take-take j m bs (omega arith)
+      let (e, _) = same-front m more p (omega arith) (omega arith) in
+      let (f, inside) = same-front m more q h (w .inside) in
+      record { long = w .long; inside = inside; spelled = rw (e, f) (w .spelled) }
 
--- the sheet ends at place k, or in the number that begins there
-abbrev Ends : List ℕ → ℕ → Type 0
-Ends bs k = (k ≡ length bs) ⊎ ((suc k ≡ length bs) × (128 ≤ getD bs k 0))
+  -- and what they spell, bs spells
+  early-spells : (p q m : ℕ) (xs more : List ℕ) → q ≤ m → m ≤ length bs → Spells (take m bs ++ more) p xs q → Spells bs p xs q
+  early-spells p q m xs more h g w =
+      let (e, _) = same-front m more p (omega arith) (omega arith) in
+      let (f, _) = same-front m more q h (omega arith) in
+      record { long = w .long; inside = omega arith; spelled = rw (← e, ← f) (w .spelled) }
 
 -- ---- readers, which have a place p: F reads the bytes, and R a xs says that value a may be read, from the bytes xs
 module _ {A : Type 0} where
@@ -83,8 +89,10 @@ module _ {A : Type 0} where
     high : n < 6
     after : p ≤ k
     within : k ≤ length bs
-    ends : n ≡ 1 → Ends bs k
+    ends : (n ≡ 1) ↔ Ends bs k
+    badly : (n ≡ 2) ↔ BadlyFormed bs k
     early : 1 < n → (more : List ℕ) → F (take (2 + k) bs ++ more) ≡ refused n k
+    before : (more : List ℕ) (m j : ℕ) → F (take k bs ++ more) ≡ refused m j → k ≤ j
 
   -- what a reading of bs at place p tells
   abbrev Outcome : ℕ → (A → List ℕ → Type 0) → (List ℕ → Read A) → List ℕ → Read A → Type 0
@@ -125,9 +133,18 @@ module _ {A B : Type 0} where
   -- a refusal by a part is one by the whole
   passed : {p q n k : ℕ} {F : List ℕ → Read A} {G : List ℕ → Read B} {bs : List ℕ}
       → p ≤ q → Refusal q F bs n k → ((more : List ℕ) → F (take (2 + k) bs ++ more) ≡ refused n k → G (take (2 + k) bs ++ more) ≡ refused n k)
-      → Refusal p G bs n k
-  passed h o g =
-      record { low = o .low; high = o .high; after = omega arith; within = o .within; ends = o .ends; early = λ u more. g more (o .early u more) }
+      → ((more : List ℕ) (m j : ℕ) → G (take k bs ++ more) ≡ refused m j → k ≤ j) → Refusal p G bs n k
+  passed h o g b =
+      record {
+        low = o .low;
+        high = o .high;
+        after = omega arith;
+        within = o .within;
+        ends = o .ends;
+        badly = o .badly;
+        early = λ u more. g more (o .early u more);
+        before = b;
+      }
 
 module _ {A B : Type 0} where
   -- the bytes of an a, and behind them what is read after it
@@ -140,7 +157,7 @@ module _ {A B : Type 0} where
       → Reads p (Then Ok bytes R) (λ bs. then (F bs) (λ a q. G a q bs))
   reads-then {p} {Ok} {bytes} {R} {F} {G} f g =
       record {
-        outcome = λ bs h. first bs (F bs) (f .outcome bs h);
+        outcome = λ bs h. first bs (F bs) refl (f .outcome bs h);
         complete = λ bs b zs t (a, ys, v, r, e) w.
             let (w₁, w₂) = spells-split bs p t (bytes a) ys (rw e at w) in
             rw (f .complete bs a (bytes a) (p + length (bytes a)) (v, refl) w₁) (g a (p + length (bytes a)) v .complete bs b ys t r w₂);
@@ -152,19 +169,44 @@ module _ {A B : Type 0} where
       second : (bs : List ℕ) (a : A) (q : ℕ) → Ok a → Spells bs p (bytes a) q → (r : Read B) → Outcome q (R a) (G a q) bs r
           → Outcome p (Then Ok bytes R) both bs r
       second bs a q v w (refused n k) o =
-          passed (omega arith) o (λ more e.
+          passed (omega arith) o
+          (λ more e.
           let w′ = spells-early bs p q (2 + k) (bytes a) more (omega arith) w in
           rw (f .complete (take (2 + k) bs ++ more) a (bytes a) q (v, refl) w′) e)
+          (λ more m j e.
+          let w′ = spells-early bs p q k (bytes a) more (o .after) w in
+          let read = f .complete (take k bs ++ more) a (bytes a) q (v, refl) w′ in
+          o .before more m j (sym (ap (λ (x : Read A). then x (λ a q. G a q (take k bs ++ more))) read) ∙ e))
       second bs a q v w (taken b t) (ys, r, z) = (bytes a ++ ys, (a, ys, v, r, refl), spells-append bs p q t (bytes a) ys w z)
 
-      first : (bs : List ℕ) (r : Read A) → Outcome p (Exactly Ok bytes) F bs r → Outcome p (Then Ok bytes R) both bs (then r (λ a q. G a q bs))
-      first bs (refused n k) o = passed (omega arith) o (λ more e. rw e)
-      first bs (taken a q) (xs, (v, e), w) = second bs a q v (rw e at w) (G a q bs) (g a q v .outcome bs (w .inside))
+      -- with other bytes from the first reader's fault on, no fault comes earlier
+      earlier : (bs : List ℕ) (n k : ℕ) → F bs ≡ refused n k → Refusal p F bs n k → (more : List ℕ) (m j : ℕ) (r : Read A) → F (take k bs ++ more) ≡ r
+          → Outcome p (Exactly Ok bytes) F (take k bs ++ more) r → then r (λ a q. G a q (take k bs ++ more)) ≡ refused m j → k ≤ j
+      earlier bs n k is o more m j (refused i h) eq _ e = let same : h ≡ j = cc in omega (arith, o .before more i h eq)
+      earlier bs n k is o more m j (taken a q) eq (xs, (v, x), w) e =
+          let behind : Refusal q (G a q) (take k bs ++ more) m j = subst (Outcome q (R a) (G a q) (take k bs ++ more)) e (g a q v .outcome _ (w .inside)) in
+          elim (decLt q k) [
+            | no far ↦ omega (arith, behind .after)
+            | yes near ↦
+                let read = f .complete bs a xs q (v, x) (early-spells bs p q k xs more (omega arith) (o .within) w) in
+                absurd (let z : _≡_ {A = ℕ} 0 1 = cc in omega arith)
+          ]
+
+      first : (bs : List ℕ) (r : Read A) → F bs ≡ r → Outcome p (Exactly Ok bytes) F bs r → Outcome p (Then Ok bytes R) both bs (then r (λ a q. G a q bs))
+      first bs (refused n k) is o =
+          passed (omega arith) o (λ more e. rw e)
+          (λ more m j e. earlier bs n k is o more m j (F (take k bs ++ more)) refl
+          (f .outcome (take k bs ++ more) (omega (arith, o .after, same-front bs k more k (omega arith) (o .within) .1))) e)
+      first bs (taken a q) _ (xs, (v, e), w) = second bs a q v (rw e at w) (G a q bs) (g a q v .outcome bs (w .inside))
 
 -- ---- numbers
 -- a number of one byte, or of two that are there
 abbrev Whole : List ℕ → ℕ → Type 0
 Whole bs p = (p < length bs) × ((getD bs p 0 < 128) ⊎ ((suc p < length bs) × (128 ≤ getD bs p 0)))
+
+-- a well-formed number; below 128 it is its one byte
+abbrev Value : List ℕ → ℕ → Type 0
+Value bs p = (v : ℕ) × (q : ℕ) × (numberAt bs p ≡ taken v q) × (v < 128 → (v ≡ getD bs p 0) × (q ≡ suc p)) × (BadlyFormed bs p → ⊥)
 
 -- a number of two bytes b and c
 two : ℕ → ℕ → ℕ → Read ℕ
@@ -181,36 +223,44 @@ module _ (bs : List ℕ) (p : ℕ) where
   number-two h k g = rw (lt-ltb p (length bs) h, le-ltb (getD bs p 0) 128 g, lt-ltb (suc p) (length bs) k, numberAt)
 
   -- what a whole number gives: two bytes may be badly formed, and are 128 or more
-  number-whole : Whole bs p → (numberAt bs p ≡ refused 2 p) ⊎ ((v : ℕ) × (q : ℕ) × (numberAt bs p ≡ taken v q) × (v < 128 → (v ≡ getD bs p 0) × (q ≡ suc p)))
+  number-whole : Whole bs p → ((numberAt bs p ≡ refused 2 p) × BadlyFormed bs p) ⊎ Value bs p
   unfolding two
-  number-whole (h, inl g) = inr (getD bs p 0, suc p, number-one h g, λ _. (refl, refl))
+  number-whole (h, inl g) = inr (getD bs p 0, suc p, number-one h g, (λ _. (refl, refl)), λ (_, b, _). omega arith)
   number-whole (h, inr (k, g)) =
       let c = getD bs (suc p) 0 in
       ⊎-elim
-      (λ (e : (eqb c 0 || ltb 127 c) ≡ true). inl (rw (number-two h k g, two, e)))
+      (λ (e : (eqb c 0 || ltb 127 c) ≡ true). inl (
+        rw (number-two h k g, two, e),
+        (k, g, ⊎-elim (λ z. inl (eqb-true c 0 z)) (λ z. inr (ltb-true 127 c z)) (or-cases (eqb c 0) (ltb 127 c) e)),
+      ))
       (λ (e : (eqb c 0 || ltb 127 c) ≡ false).
       inr (
         getD bs p 0 - 128 + 128 * c,
         suc (suc p),
         rw (number-two h k g, two, e),
-        λ u. absurd
-            (omega (arith, eqb-false c 0 (or-false-left (eqb c 0) (ltb 127 c) e))),
+        (λ u. absurd (omega (arith, not-zero e))),
+        λ (_, _, b). ⊎-elim (not-zero e) (λ z. omega (arith, ltb-false 127 c (or-false-right (eqb c 0) (ltb 127 c) e))) b,
       ))
       (cases (eqb c 0 || ltb 127 c))
+    where
+      not-zero : (eqb (getD bs (suc p) 0) 0 || ltb 127 (getD bs (suc p) 0)) ≡ false → getD bs (suc p) 0 ≡ 0 → ⊥
+      not-zero e = eqb-false (getD bs (suc p) 0) 0 (or-false-left (eqb (getD bs (suc p) 0) 0) (ltb 127 (getD bs (suc p) 0)) e)
+
+  -- and does not end the sheet
+  whole-goes-on : Whole bs p → Ends bs p → ⊥
+  whole-goes-on (h, w) (inl e) = omega arith
+  whole-goes-on (h, w) (inr (e, g)) = ⊎-elim (λ b. omega arith) (λ (k, _). omega arith) w
 
   -- a number is whole, or the sheet ends
-  number-is : p ≤ length bs → Whole bs p ⊎ ((k : ℕ) × (p ≤ k) × (k ≤ length bs) × Ends bs k × (numberAt bs p ≡ refused 1 k))
+  number-is : p ≤ length bs → Whole bs p ⊎ (Ends bs p × (numberAt bs p ≡ refused 1 p))
   unfolding numberAt
   number-is h = elim (decLt p (length bs)) [
-    | no a ↦ inr (length bs, h, omega arith, inl refl, rw (le-ltb p (length bs) (omega arith), numberAt))
+    | no a ↦ let end : length bs ≡ p = omega arith in inr (inl (sym end), rw (le-ltb p (length bs) (omega arith), numberAt) (ap (refused 1) end))
     | yes a ↦ elim (decLt (getD bs p 0) 128) [
       | yes b ↦ inl (a, inl b)
       | no b ↦ elim (decLt (suc p) (length bs)) [
         | yes c ↦ inl (a, inr (c, omega arith))
         | no c ↦ inr (
-          p,
-          omega arith,
-          h,
           inr (omega arith, omega arith),
           rw (lt-ltb p (length bs) a, le-ltb (getD bs p 0) 128 (omega arith), le-ltb (suc p) (length bs) (omega arith), numberAt),
         )
@@ -235,7 +285,7 @@ number-early bs p more (h, w) =
     byte j h g = one-spelled cut j (getD bs j 0) (suc j) (spells-early bs j (suc j) (2 + p) (getD bs j 0 ∷ []) more g (spells-one bs j h))
 
 -- a number below n has one byte, for the limits are small
-module _ (n why : ℕ) (fit : (n ≤ 128) × (1 < why) × (why < 6)) where
+module _ (n why : ℕ) (fit : (n ≤ 128) × (2 < why) × (why < 6)) where
   -- the test against the limit
   below-test : (bs : List ℕ) (p v q : ℕ) → numberAt bs p ≡ taken v q → (b : Bool) → ltb v n ≡ b
       → belowAt bs n why p ≡ elim b [ true ↦ taken v q | false ↦ refused why p ]
@@ -246,7 +296,7 @@ module _ (n why : ℕ) (fit : (n ≤ 128) × (1 < why) × (why < 6)) where
   unfolding belowAt
   reads-below p =
       record {
-        outcome = λ bs h. ⊎-elim (begun bs h) (ended bs) (number-is bs p h);
+        outcome = λ bs h. ⊎-elim (begun bs h) (ended bs h) (number-is bs p h);
         complete = λ bs v xs q (t, e) w.
             let (h, g, k) = one-spelled bs p v q (rw e at w) in
             let l : v < n = ltb-true v n t in
@@ -256,39 +306,63 @@ module _ (n why : ℕ) (fit : (n ≤ 128) × (1 < why) × (why < 6)) where
       Out : List ℕ → Type 0
       Out bs = Outcome p (Exactly (λ v. ltb v n ≡ true) (λ v. v ∷ [])) (λ bs. belowAt bs n why p) bs (belowAt bs n why p)
 
-      ended : (bs : List ℕ) → ((k : ℕ) × (p ≤ k) × (k ≤ length bs) × Ends bs k × (numberAt bs p ≡ refused 1 k)) → Out bs
-      ended bs (k, a, b, c, e) = rw e (record {
+      -- a refusal is nowhere before p
+      not-before : (bs : List ℕ) (m j : ℕ) → p ≤ length bs → belowAt bs n why p ≡ refused m j → p ≤ j
+      not-before bs m j h e =
+          ⊎-elim
+          (λ w. ⊎-elim
+          (λ ((f, _) : (numberAt bs p ≡ refused 2 p) × BadlyFormed bs p). at 2 (rw f))
+          (λ ((v, q, f, _, _) : Value bs p).
+          ⊎-elim
+          (λ t. absurd (let z : _≡_ {A = ℕ} 0 1 = cc (below-test bs p v q f true t) in omega arith))
+          (λ t. at why (below-test bs p v q f false t))
+          (cases (ltb v n)))
+          (number-whole bs p w))
+          (λ ((_, f) : Ends bs p × (numberAt bs p ≡ refused 1 p)). at 1 (rw f))
+          (number-is bs p h)
+        where
+          at : (i : ℕ) → belowAt bs n why p ≡ refused i p → p ≤ j
+          at i f = let same : p ≡ j = cc in omega arith
+
+      nothing-before : (bs : List ℕ) → p ≤ length bs → (more : List ℕ) (m j : ℕ) → belowAt (take p bs ++ more) n why p ≡ refused m j → p ≤ j
+      nothing-before bs h more m j = not-before (take p bs ++ more) m j (same-front bs p more p (omega arith) h .1)
+
+      ended : (bs : List ℕ) → p ≤ length bs → Ends bs p × (numberAt bs p ≡ refused 1 p) → Out bs
+      ended bs h (c, e) = rw e (record {
         low = omega arith;
         high = omega arith;
-        after = a;
-        within = b;
-        ends = λ _. c;
-        early = λ z more. absurd
-            (omega arith);
+        after = omega arith;
+        within = h;
+        ends = (λ _. c, λ _. refl);
+        badly = (λ z. absurd (omega arith), λ (b, _, _). absurd (⊎-elim (λ e. omega arith) (λ (e, _). omega arith) c));
+        early = λ z more. absurd (omega arith);
+        before = nothing-before bs h;
       })
 
       -- a whole number that is refused
-      faulty : (bs : List ℕ) (k : ℕ) → p ≤ length bs → Whole bs p → (1 < k) × (k < 6) → belowAt bs n why p ≡ refused k p → Out bs
-      faulty bs k h w g e =
+      faulty : (bs : List ℕ) (k : ℕ) → p ≤ length bs → Whole bs p → (1 < k) × (k < 6) → ((k ≡ 2) ↔ BadlyFormed bs p) → belowAt bs n why p ≡ refused k p → Out bs
+      faulty bs k h w g b e =
           rw e (record {
             low = omega arith;
             high = g .1;
             after = omega arith;
             within = h;
-            ends = λ z. absurd (omega arith);
+            ends = (λ z. absurd (omega arith), λ z. absurd (whole-goes-on bs p w z));
+            badly = b;
             early = λ _ more. rw (number-early bs p more w) e;
+            before = nothing-before bs h;
           })
 
       begun : (bs : List ℕ) → p ≤ length bs → Whole bs p → Out bs
       begun bs h w =
           ⊎-elim
-          (λ e. faulty bs 2 h w (omega arith) (rw e))
-          (λ ((v, q, e, k) : (v : ℕ) × (q : ℕ) × (numberAt bs p ≡ taken v q) × (v < 128 → (v ≡ getD bs p 0) × (q ≡ suc p))).
+          (λ (e, b). faulty bs 2 h w (omega arith) (λ _. b, λ _. refl) (rw e))
+          (λ ((v, q, e, k, well) : Value bs p).
           ⊎-elim
           (λ (t : ltb v n ≡ true).
           let (a, b) = k (omega (arith, ltb-true v n t)) in
           rw (below-test bs p v q e true t) (v ∷ [], (t, refl), rw (a, b) (spells-one bs p (w .0))))
-          (λ t. faulty bs why h w (omega arith) (below-test bs p v q e false t))
+          (λ t. faulty bs why h w (omega arith) (λ z. absurd (omega arith), λ b. absurd (well b)) (below-test bs p v q e false t))
           (cases (ltb v n)))
           (number-whole bs p w)
 
@@ -305,7 +379,7 @@ module _ {A : Type 0} where
   abbrev Two : ℕ → ℕ → (ℕ → ℕ → A) → A → List ℕ → Type 0
   Two m n con a zs = (i : ℕ) × (j : ℕ) × ((ltb i m && ltb j n) ≡ true) × (a ≡ con i j) × (zs ≡ i ∷ j ∷ [])
 
-module _ {A : Type 0} (m why : ℕ) (fit : (m ≤ 128) × (1 < why) × (why < 6)) where
+module _ {A : Type 0} (m why : ℕ) (fit : (m ≤ 128) × (2 < why) × (why < 6)) where
   reads-one : (con : ℕ → A) (p : ℕ) → Reads p (One m con) (λ bs. then (belowAt bs m why p) (λ i q. taken (con i) q))
   reads-one con p =
       reads-same
@@ -696,9 +770,46 @@ refused-early bs more n p h g e =
     (λ (s, six, h, a). absurd (omega arith))
     (read-refused bs n p e)
 
--- 1: the sheet ends before a number, or inside one that was begun
-pub refused-end : (bs : List ℕ) (p : ℕ) → readSheet bs ≡ refused 1 p → (p ≡ length bs) ⊎ ((suc p ≡ length bs) × (128 ≤ getD bs p 0))
-refused-end bs p e = ⊎-elim (λ a. front-refused bs 1 p a .ends refl) (λ (s, six, h, a). absurd (omega arith)) (read-refused bs 1 p e)
+-- and no bytes from its place on bring a fault in front of it
+pub refused-before : (bs more : List ℕ) (n p : ℕ) → readSheet bs ≡ refused n p → (m q : ℕ) → readSheet (take p bs ++ more) ≡ refused m q → p ≤ q
+refused-before bs more n p e m q f =
+    ⊎-elim
+    (λ a. let r = front-refused bs n p a in ⊎-elim (λ b. r .before more m q b) (λ (s, _, _, b). whole-sheet s a b) (read-refused changed m q f))
+    (λ (s, _, h, a).
+    let (w, l, x, _) = front-taken bs s p .0 a in
+    let (same, inside) = same-front bs p more p (omega arith) (omega arith) in
+    let c : sectionsAt changed ≡ taken s p = front-taken changed s p .1 (w, l, same ∙ x, inside) in
+    ⊎-elim
+    (λ b. absurd (let z : _≡_ {A = ℕ} 0 1 = cc in omega arith))
+    (λ (t, _, _, b). let same : p ≡ q = cc in omega arith)
+    (read-refused changed m q f))
+    (read-refused bs n p e)
+  where
+    changed : List ℕ
+    changed = take p bs ++ more
+
+    -- a whole sheet in front of the fault would have been read
+    whole-sheet : (s : Sheet) → sectionsAt bs ≡ refused n p → sectionsAt changed ≡ taken s q → p ≤ q
+    whole-sheet s a b =
+        let within = front-refused bs n p a .within in
+        let (w, l, x, _) = front-taken changed s q .0 b in
+        elim (decLt q p) [
+          | no far ↦ omega arith
+          | yes near ↦
+              let c = front-taken bs s q .1 (w, l, sym (same-front bs p more q (omega arith) (omega arith) .0) ∙ x, omega arith) in
+              absurd (let z : _≡_ {A = ℕ} 0 1 = cc in omega arith)
+        ]
+
+-- of 1 to 5 it is 1 exactly if the sheet ends before the number, or inside one that was begun
+end-is : (bs : List ℕ) (n p : ℕ) → n < 6 → readSheet bs ≡ refused n p → (n ≡ 1) ↔ Ends bs p
+end-is bs n p h e = ⊎-elim (λ a. front-refused bs n p a .ends) (λ (s, six, _, a). absurd (omega arith)) (read-refused bs n p e)
+
+pub refused-end : (bs : List ℕ) (p : ℕ) → readSheet bs ≡ refused 1 p → Ends bs p
+refused-end bs p e = end-is bs 1 p (omega arith) e .0 refl
+
+-- and 2 exactly if the number is badly formed
+badly-is : (bs : List ℕ) (n p : ℕ) → n < 6 → readSheet bs ≡ refused n p → (n ≡ 2) ↔ BadlyFormed bs p
+badly-is bs n p h e = ⊎-elim (λ a. front-refused bs n p a .badly) (λ (s, six, _, a). absurd (omega arith)) (read-refused bs n p e)
 
 -- 6: a whole sheet, and bytes behind it
 pub refused-spare : (bs : List ℕ) (p : ℕ)
@@ -710,3 +821,37 @@ refused-spare bs p = (
       (read-refused bs 6 p e),
   λ (s, w, l, e, h). read-spare bs s p (front-taken bs s p .1 (w, l, e, omega arith)) h,
 )
+
+-- the bytes of a sheet are read as that sheet
+pub laid-read : (bs : List ℕ) (s : Sheet) → LaidOut s bs → readSheet bs ≡ taken s (length bs)
+laid-read bs s (w, l, e) = accepted-is bs s (length bs) .1 (w, l, e, refl)
+
+-- refused exactly if they are those of no sheet
+refused-is : (bs : List ℕ) → ((n : ℕ) × (p : ℕ) × (readSheet bs ≡ refused n p)) ↔ ((s : Sheet) → LaidOut s bs → ⊥)
+refused-is bs = (
+  λ (n, p, e) s h. not-both bs n p (length bs) s e (laid-read bs s h),
+  λ none. ⊎-elim (λ r. r) (λ (s, p, e). let (w, l, x, _) = accepted-is bs s p .0 e in absurd (none s (w, l, x))) (one-outcome bs),
+)
+
+-- all this of an answer that says what the reading says
+pub faults-of : (bs : List ℕ) (R : ℕ → ℕ → Type 0) → ((n p : ℕ) → n < 7 → R n p ↔ (readSheet bs ≡ refused n p)) → FaultsOf bs R
+faults-of bs R is =
+    record {
+      as-read = is;
+      no-sheet = (
+        λ (n, p, h, r). refused-is bs .0 (n, p, is n p h .0 r),
+        λ none.
+            let (n, p, e) = refused-is bs .1 none in
+            let (_, h, _) = refused-range bs n p e in
+            (n, p, h, is n p h .1 e),
+      );
+      place = λ n p h r. let (low, _, within) = refused-range bs n p (is n p h .0 r) in (low, within);
+      one = λ n p h r. end-is bs n p h (is n p (omega arith) .0 r);
+      two = λ n p h r. badly-is bs n p h (is n p (omega arith) .0 r);
+      six = λ p. (
+        λ r. let (s, w, l, x, h) = refused-spare bs p .0 (is 6 p (omega arith) .0 r) in (s, (w, l, x), h),
+        λ (s, (w, l, x), h). is 6 p (omega arith) .1 (refused-spare bs p .1 (s, w, l, x, h)),
+      );
+      first = λ n p h r more. refused-before bs more n p (is n p h .0 r);
+      behind = λ n p low high r more. refused-early bs more n p low high (is n p (omega arith) .0 r);
+    }

@@ -14,16 +14,19 @@ use Rattle.alc.specs.Sheet.{Sheet, count, wellFormed, inLimits}
 use Rattle.alc.specs.Bytes.{Read, refused, taken, readSheet}
 use Rattle.alc.specs.Seeds.{bound}
 use Rattle.alc.specs.Model.{Finding, satisfyAnswer, TenMeans}
-use Rattle.alc.specs.Causes.{causesAnswer}
+use Rattle.alc.specs.Judge.{recordsNeeded}
+use Rattle.alc.specs.Causes.{causesAnswer, withRules, denial}
 use Rattle.alc.specs.Replies.{Reply, mostRecords, untouched, cleared, finished, checked, satisfyRead, causesRead, satisfyReply, causesReply, Balance}
 use Rattle.alc.specs.Replies.{faulty, balanceRead, balanceReply}
-use Rattle.alc.specs.Promises.{LentWell, Refusals, ZerosBehind, SatisfyMeans, SatisfyPromise, CauseList, CausesMeans, CausesPromise, BalancePromise}
+use Rattle.alc.specs.Promises.{LaidOut, MoreSeeds, LentWell, Refusals, ZerosBehind, SatisfyMeans, SatisfyPromise, CauseList, CausesMeans}
+use Rattle.alc.specs.Promises.{CausesPromise, BalancePromise}
 use Rattle.alc.specs.Theorems.Lists.{cases, or-cases, or-false-left, or-false-right, and-left, and-right, and-both, clashing}
 use Rattle.alc.specs.Theorems.Sheet.{WellFormed, well-formed}
-use Rattle.alc.specs.Theorems.Causes.{listed-is}
+use Rattle.alc.specs.Theorems.Records.{more-seeds}
+use Rattle.alc.specs.Theorems.Causes.{listed-is, kept-well-formed}
 use Rattle.alc.specs.Theorems.Answers.{thirteen-is, thirteen-never, twelve-only, three-only, listed-ascending, causes-fourteen, causes-thirteen}
 use Rattle.alc.specs.Theorems.Answers.{causes-never, two-only}
-use Rattle.alc.specs.Theorems.Bytes.{accepted-is, refused-range}
+use Rattle.alc.specs.Theorems.Bytes.{refused-range, laid-read, faults-of}
 use Rattle.alc.specs.Theorems.Words.{ten-model}
 
 module _ (rs ms os : List ℕ) where
@@ -143,7 +146,7 @@ module _ (bs rs ms os : List ℕ) where
   refusals-of : (o : Reply) → Outcome o → Refusals bs rs ms os o
   refusals-of o (seven bad e) = rw e (record {
     seven = ((λ h. bad), λ h. refl);
-    faults = λ lent n p n<. absurd (bad lent);
+    faults = λ lent. absurd (bad lent);
     alone = λ h. (refl, refl, refl);
     zeroed = λ h. absurd (omega arith);
   })
@@ -151,13 +154,13 @@ module _ (bs rs ms os : List ℕ) where
       let range = refused-range bs n p r in
       rw e (record {
         seven = ((λ h. absurd (omega arith)), λ h. absurd (h lent));
-        faults = λ lent m q m<. ((λ h. r ∙ λ i. refused (h .0 i) (h .1 i)), λ f. refused-once n m p q r f);
+        faults = λ _. faults-of bs _ (λ m q m<. ((λ h. r ∙ λ i. refused (h .0 i) (h .1 i)), λ f. refused-once n m p q r f));
         alone = λ h. (refl, refl, refl);
         zeroed = λ h. absurd (omega arith);
       })
   refusals-of o (beyond lent s p r b) = record {
     seven = ((λ h. absurd (omega (arith))), λ h. absurd (h lent));
-    faults = λ lent m q m<. ((λ h. absurd (omega (arith, b .late, h .0))), λ f. refused-or-taken m q p s f r);
+    faults = λ _. faults-of bs _ (λ m q m<. ((λ h. absurd (omega (arith, b .late, h .0))), λ f. refused-or-taken m q p s f r));
     alone = b .alone;
     zeroed = b .zeroed;
   }
@@ -168,13 +171,10 @@ module _ (bs rs ms os : List ℕ) where
       record { late = omega arith; alone = λ h. absurd (omega arith); zeroed = λ h. (z, m) }
 
 -- ---- demand 2
-well-read : (bs : List ℕ) (s : Sheet) (p : ℕ) → readSheet bs ≡ taken s p → (wellFormed s ≡ true) × (inLimits s ≡ true)
-well-read bs s p e = let (wf, lim, _, _) = accepted-is bs s p .0 e in (wf, lim)
-
 answer-late : (s : Sheet) (room : ℕ) → 9 < satisfyAnswer s room .number
 answer-late s room = ⊎-elim (λ h. ⊎-elim (λ e. omega arith) (λ e. omega arith) h) (λ e. omega arith) (three-only s room)
 
-module _ (bs rs ms os : List ℕ) (s : Sheet) (p : ℕ) (r : readSheet bs ≡ taken s p) where
+module _ (rs ms os : List ℕ) (s : Sheet) (well : wellFormed s ≡ true) (lim : inLimits s ≡ true) where
   abbrev verdict : Finding
   verdict = satisfyAnswer s (length rs)
 
@@ -185,7 +185,7 @@ module _ (bs rs ms os : List ℕ) (s : Sheet) (p : ℕ) (r : readSheet bs ≡ ta
   not-eleven e = ⊎-elim (λ h. ⊎-elim (λ f. omega arith) (λ f. omega arith) h) (λ f. omega arith) (three-only s (length rs))
 
   words-mean : verdict .number ≡ 10 → TenMeans s (verdict .out)
-  words-mean = let (wf, lim) = well-read bs s p r in ten-model s wf lim (length rs)
+  words-mean = ten-model s well lim (length rs)
 
   satisfy-means : SatisfyMeans s (length rs) os given
   satisfy-means = record {
@@ -200,14 +200,13 @@ module _ (bs rs ms os : List ℕ) (s : Sheet) (p : ℕ) (r : readSheet bs ≡ ta
         let (e, f, q) = when-long rs ms os 10 verdict not-eleven h in
         (verdict .out, words-mean e, ap (λ (o : Reply). o .carries) q, f, ap (λ (o : Reply). o .out) q ∙ zeros-alone rs ms os 11 (length (verdict .out)));
     twelve = λ h.
-        let (wf, lim) = well-read bs s p r in
         let q = when-none rs ms os 10 verdict 12 (λ e. omega arith) (λ e. omega arith) h in (
-          twelve-only s (length rs) (well-formed s wf) (own-number rs ms os 10 verdict 12 (λ e. omega arith) (λ e. omega arith) .0 h),
+          twelve-only s (length rs) (well-formed s well) (own-number rs ms os 10 verdict 12 (λ e. omega arith) (λ e. omega arith) .0 h),
           ap
               (λ (o : Reply). o .carries) q,
           ap (λ (o : Reply). o .out) q ∙ zeros-alone rs ms os 12 0,
         );
-    thirteen = (λ h. thirteen-is s (length rs) .0 (thirteen-own .0 h), λ h. thirteen-own .1 (thirteen-is s (length rs) .1 h));
+    thirteen = (λ h. counted .0 (thirteen-is s (length rs) .0 (thirteen-own .0 h)), λ h. thirteen-own .1 (thirteen-is s (length rs) .1 (counted .1 h)));
     thirteen-alone = λ h.
         let q = when-none rs ms os 10 verdict 13 (λ e. omega arith) (λ e. omega arith) h in
         (ap (λ (o : Reply). o .carries) q, ap (λ (o : Reply). o .out) q ∙ zeros-alone rs ms os 13 0);
@@ -215,6 +214,9 @@ module _ (bs rs ms os : List ℕ) (s : Sheet) (p : ℕ) (r : readSheet bs ≡ ta
     one-of = numbers;
   }
     where
+      counted : (length rs < length (recordsNeeded s [])) ↔ MoreSeeds s [] (length rs)
+      counted = more-seeds s [] (well-formed s well) (length rs)
+
       thirteen-own : (given .number ≡ 13) ↔ (verdict .number ≡ 13)
       thirteen-own = own-number rs ms os 10 verdict 13 (λ e. omega arith) (λ e. omega arith)
 
@@ -240,9 +242,10 @@ module _ (bs rs ms os : List ℕ) where
         (λ (bad, e). refusals-of bs rs ms os (satisfyReply bs rs ms os) (seven bad e))
         (λ (lent, e). subst (λ (o : Reply). Refusals bs rs ms os o) (sym e) (refusals-of bs rs ms os _ (read-cases (readSheet bs) refl lent)))
         (checked-cases rs ms os (satisfyRead rs ms os (readSheet bs)));
-    means = λ lent s p r. ⊎-elim
+    means = λ lent s (well, lim, is). ⊎-elim
         (λ (bad, e). absurd (bad lent))
-        (λ (_, e). subst (λ (o : Reply). SatisfyMeans s (length rs) os o) (sym (e ∙ ap (satisfyRead rs ms os) r)) (satisfy-means bs rs ms os s p r))
+        (λ (_, e). subst (λ (o : Reply). SatisfyMeans s (length rs) os o) (sym (e ∙ ap (satisfyRead rs ms os) (laid-read bs s (well, lim, is))))
+        (satisfy-means rs ms os s well lim))
         (checked-cases rs ms os (satisfyRead rs ms os (readSheet bs)));
   }
 
@@ -254,15 +257,12 @@ module _ (bs rs ms os : List ℕ) where
   satisfy-unique o o′ p q = p .exact ∙ sym (q .exact)
 
 -- ---- demand 3
-module _ (bs rs ms os : List ℕ) (s : Sheet) (p : ℕ) (r : readSheet bs ≡ taken s p) (port class : ℕ) (p< : port < s .individuals) (c< : class < count s) where
+module _ (rs ms os : List ℕ) (s : Sheet) (wf : WellFormed s) (port class : ℕ) (p< : port < s .individuals) (c< : class < count s) where
   abbrev causes : Finding
   causes = causesAnswer s port class (length rs)
 
   abbrev shown : Reply
   shown = finished rs ms os 14 causes
-
-  wf : WellFormed s
-  wf = well-formed s (well-read bs s p r .0)
 
   not-fifteen : causes .number ≡ 15 → ⊥
   not-fifteen e = ⊎-elim (λ f. omega arith) (λ f. omega arith) (two-only s port class (length rs))
@@ -273,9 +273,8 @@ module _ (bs rs ms os : List ℕ) (s : Sheet) (p : ℕ) (r : readSheet bs ≡ ta
   causes-means : CausesMeans s port class (length rs) os shown
   causes-means = record {
     thirteen = (
-      λ h. causes-thirteen s port class (length rs) wf p< c< .0 (thirteen-own .0 h),
-      λ h. thirteen-own .1
-          (causes-thirteen s port class (length rs) wf p< c< .1 h),
+      λ h. let (n, n<, least, lt) = causes-thirteen s port class (length rs) wf p< c< .0 (thirteen-own .0 h) in (n, n<, least, counted n .0 lt),
+      λ (n, n<, least, more). thirteen-own .1 (causes-thirteen s port class (length rs) wf p< c< .1 (n, n<, least, counted n .1 more)),
     );
     thirteen-alone = λ h.
         let q = when-none rs ms os 14 causes 13 (λ e. omega arith) (λ e. omega arith) h in
@@ -294,6 +293,9 @@ module _ (bs rs ms os : List ℕ) (s : Sheet) (p : ℕ) (r : readSheet bs ≡ ta
     one-of = numbers;
   }
     where
+      counted : (n : ℕ) → (length rs < length (recordsNeeded (withRules s n) (denial port class))) ↔ MoreSeeds (withRules s n) (denial port class) (length rs)
+      counted n = more-seeds (withRules s n) (denial port class) (kept-well-formed s wf n) (length rs)
+
       thirteen-own : (shown .number ≡ 13) ↔ (causes .number ≡ 13)
       thirteen-own = own-number rs ms os 14 causes 13 (λ e. omega arith) (λ e. omega arith)
 
@@ -342,11 +344,10 @@ module _ (bs : List ℕ) (port class : ℕ) (rs ms os : List ℕ) where
   query-read (taken s p) e lent = beyond lent s p e (query-beyond s p)
 
   -- where the buffers are in order and the sheet is read
-  causes-reply : LentWell rs ms → (s : Sheet) (p : ℕ) → readSheet bs ≡ taken s p
-      → causesReply bs port class rs ms os ≡ causesRead rs ms os port class (taken s p)
+  causes-reply : LentWell rs ms → (s : Sheet) → LaidOut s bs → causesReply bs port class rs ms os ≡ causesRead rs ms os port class (taken s (length bs))
   unfolding causesReply
-  causes-reply lent s p r =
-      ⊎-elim (λ (bad, e). absurd (bad lent)) (λ (_, e). e ∙ ap (causesRead rs ms os port class) r)
+  causes-reply lent s is =
+      ⊎-elim (λ (bad, e). absurd (bad lent)) (λ (_, e). e ∙ ap (causesRead rs ms os port class) (laid-read bs s is))
       (checked-cases rs ms os (causesRead rs ms os port class (readSheet bs)))
 
   eight-is : (s : Sheet) (p : ℕ) → ((causesRead rs ms os port class (taken s p) .number ≡ 8) × (causesRead rs ms os port class (taken s p) .carries ≡ 0))
@@ -369,15 +370,16 @@ module _ (bs : List ℕ) (port class : ℕ) (rs ms os : List ℕ) where
         (λ (bad, e). refusals-of bs rs ms os (causesReply bs port class rs ms os) (seven bad e))
         (λ (lent, e). subst (λ (o : Reply). Refusals bs rs ms os o) (sym e) (refusals-of bs rs ms os _ (query-read (readSheet bs) refl lent)))
         (checked-cases rs ms os (causesRead rs ms os port class (readSheet bs)));
-    eight = λ lent s p r.
-        subst (λ (o : Reply). ((o .number ≡ 8) × (o .carries ≡ 0)) ↔ ((port < s .individuals) × (class < count s) → ⊥)) (sym (causes-reply lent s p r))
-        (eight-is s p);
-    means = λ lent s p r p< c<.
-        subst (λ (o : Reply). CausesMeans s port class (length rs) os o) (sym (causes-reply lent s p r))
+    eight = λ lent s is.
+        subst (λ (o : Reply). ((o .number ≡ 8) × (o .carries ≡ 0)) ↔ ((port < s .individuals) × (class < count s) → ⊥)) (sym (causes-reply lent s is))
+        (eight-is s (length bs));
+    means = λ lent s is p< c<.
+        subst (λ (o : Reply). CausesMeans s port class (length rs) os o) (sym (causes-reply lent s is))
         (⊎-elim
         (λ (off, e). absurd (off (p<, c<)))
-        (λ (_, _, e). subst (λ (o : Reply). CausesMeans s port class (length rs) os o) (sym e) (causes-means bs rs ms os s p r port class p< c<))
-        (query-cases s p));
+        (λ (_, _, e). subst (λ (o : Reply). CausesMeans s port class (length rs) os o) (sym e)
+        (causes-means rs ms os s (well-formed s (is .0)) port class p< c<))
+        (query-cases s (length bs)));
   }
 
   pub causes-kept : {o : Reply} → o ≡ causesReply bs port class rs ms os → CausesPromise bs port class rs ms os o
@@ -415,13 +417,13 @@ module _ (bs : List ℕ) (room : ℕ) where
         (λ (h, e). ((λ _. h), λ _. e))
         (λ (h, e). ((λ f. absurd (no-seven (faults-are (readSheet bs) 7 0 .0 (sym e ∙ f)))), λ g. absurd (omega arith)))
         room-cases;
-    faults = λ lent n p. ⊎-elim
+    faults = λ lent. ⊎-elim
         (λ (h, e). absurd (omega arith))
-        (λ (h, e). ((λ f. faults-are (readSheet bs) n p .0 (sym e ∙ f)), λ f. e ∙ faults-are (readSheet bs) n p .1 f))
+        (λ (h, e). faults-of bs _ (λ n p _. ((λ f. faults-are (readSheet bs) n p .0 (sym e ∙ f)), λ f. e ∙ faults-are (readSheet bs) n p .1 f)))
         room-cases;
-    means = λ lent s p r. ⊎-elim
+    means = λ lent s is. ⊎-elim
         (λ (h, e). absurd (omega arith))
-        (λ (h, e). (pos room -ℤ pos (bound s), e ∙ ap (balanceRead room) r, -ℤ-+ℤ-cancel (pos room) (pos (bound s))))
+        (λ (h, e). (pos room -ℤ pos (bound s), e ∙ ap (balanceRead room) (laid-read bs s is), -ℤ-+ℤ-cancel (pos room) (pos (bound s))))
         room-cases;
   }
 

@@ -1,5 +1,5 @@
 -- The records needed are the seeds that are reached, each once, and at most e·2^(e-1); from which joint labels; and that the model's seeds are among them.
-use Prim.Native.Nat.{_≤_}
+use Prim.Native.Nat.{ℕ, _≤_, _<_}
 use mathlib.Core.Bool.{true, false}
 use mathlib.Core.Path.{_≡_, refl, sym}
 use mathlib.Core.Logic.{_↔_, ⊎-elim}
@@ -13,7 +13,9 @@ use Rattle.alc.specs.Settle.{Joint}
 use Rattle.alc.specs.Seeds.{SeedSatisfiable, seedSurvives, seeds, bound, fine, asks, successors, Ask, includeAll, expansions, universe}
 use Rattle.alc.specs.Judge.{start, Entry, later, Reached, at-once, settledJoints, recordsNeeded, considered, firstFine, AllSatisfiable}
 use Rattle.alc.specs.Model.{chosen, modelSeeds}
+use Rattle.alc.specs.Promises.{LookedAt, MoreSeeds}
 use Rattle.alc.specs.Theorems.Lists.{each-elim, upToFirst-in, upToFirst-is, upToFirst-found, each-intro, any-none, all-elim, all-intro, cases, clashing}
+use Rattle.alc.specs.Theorems.Counting.{pigeon}
 use Rattle.alc.specs.Theorems.Sheet.{WellFormed}
 use Rattle.alc.specs.Theorems.Settle.{settle-finds}
 use Rattle.alc.specs.Theorems.Seeds.{seeds-in}
@@ -96,8 +98,7 @@ module _ (s : Sheet) (xs : List Entry) where
       test k k-in q q-in = reached-seed-test wf (q .seed) (at-once J J-in k k-in q q-in refl)
 
   -- the settled joint labels that count: those before which none has all seeds satisfiable
-  pub considered-is : WellFormed s → (J : Joint) → (J ∈ considered s xs)
-      ↔ ((ys : List Joint) × (zs : List Joint) × (settledJoints s xs ≡ ys ++ (J ∷ zs)) × ((K : Joint) → K ∈ ys → AllSatisfiable s K → ⊥))
+  pub considered-is : WellFormed s → (J : Joint) → (J ∈ considered s xs) ↔ LookedAt s xs J
   considered-is wf J =
       let split = upToFirst-is (all (fine s)) (settledJoints s xs) J in
       let inside : (ys zs : List Joint) → settledJoints s xs ≡ ys ++ (J ∷ zs) → (K : Joint) → K ∈ ys → (all (fine s) K ≡ true) ↔ AllSatisfiable s K =
@@ -105,6 +106,28 @@ module _ (s : Sheet) (xs : List Entry) where
         λ h. let (ys, zs, e, none) = split .0 h in (ys, zs, e, λ K i a. clashing (all (fine s) K) (inside ys zs e K i .1 a) (none K i)),
         λ (ys, zs, e, none). split .1 (ys, zs, e, λ K i. ⊎-elim (λ t. absurd (none K i (inside ys zs e K i .0 t))) (λ t. t) (cases (all (fine s) K))),
       )
+
+  -- what is reached from some of them is reached from all
+  reached-from : (Js : List Joint) → ((J : Joint) → J ∈ Js → J ∈ considered s xs) → (l : Label) → Reached s Js l → Reached s (considered s xs) l
+  reached-from Js h l (at-once J J-in k k-in q q-in e) = at-once J (h J J-in) k k-in q q-in e
+  reached-from Js h l (later m r k k-in q q-in e) = later m (reached-from Js h m r) k k-in q q-in e
+
+  -- the records needed outnumber the room exactly if more distinct seeds are reached
+  pub more-seeds : WellFormed s → (room : ℕ) → (room < length (recordsNeeded s xs)) ↔ MoreSeeds s xs room
+  more-seeds wf room = (
+    λ h. record {
+      joints = considered s xs;
+      looked-at = considered-is wf;
+      found = recordsNeeded s xs;
+      distinct = records-distinct;
+      reached = λ l. records-are l .0;
+      more = h;
+    },
+    λ t.
+        let inside : (J : Joint) → J ∈ t .joints → J ∈ considered s xs = λ J h. considered-is wf J .1 (t .looked-at J .0 h) in
+        let fewer = pigeon (t .found) (recordsNeeded s xs) (t .distinct) (λ l h. records-are l .1 (reached-from (t .joints) inside l (t .reached l h))) in
+        omega (arith, t .more),
+  )
 
   -- the seeds of the model that is written are among the records
   pub model-in-records : WellFormed s → (K : Joint) → firstFine s xs ≡ just K → (l : Label) → l ∈ modelSeeds s K → l ∈ recordsNeeded s xs

@@ -2,7 +2,7 @@
 use mathlib.Core.Path.{_∙_}
 use borrow.Author.Needs.{needs}
 use Rattle.sheet.specs.Form.{lineOf}
-use Rattle.reader.specs.Theorems.{entry-count}
+use Rattle.reader.specs.Theorems.{entry-count, read-kept}
 use Rattle.reader.proofs.Sheets.{line-part, rule-part, sheet-refused, by-facts}
 use Rattle.reader.proofs.read_sheet.Statement.{statement}
 use Rattle.reader.proofs.read_sheet.Tie as tie
@@ -23,7 +23,7 @@ returns : tie.Need-returns
 returns c =
     let d = c .before .before .before in
     let told = c .before .enum-told .given .1 in
-    sheet-refused _ _ (c .refused-sheet .ensures) told (by-facts _ ∙ rw (line-part _ _ _ _ (d .read-section .ensures) .refused-as told))
+    read-kept _ _ (sheet-refused _ _ (c .refused-sheet .ensures) told (by-facts _ ∙ rw (line-part _ _ _ _ (d .read-section .ensures) .refused-as told)))
 
 read-section-requires-2 : tie.Need-read-section-requires-2
 read-section-requires-2 c κs = search needs
@@ -44,7 +44,7 @@ returns-2 c =
     let told = c .before .enum-told2 .given .1 in
     let lines = line-part _ _ _ _ (d .read-section .ensures) .taken-as (e .before .before .before .lines-end .given .1) in
     let rules = rule-part _ _ _ _ (e .read-section2 .ensures) .refused-as told in
-    sheet-refused _ _ (c .refused-sheet2 .ensures) told (by-facts _ ∙ rw (lines, entry-count lineOf (d .read-section .result .section), rules))
+    read-kept _ _ (sheet-refused _ _ (c .refused-sheet2 .ensures) told (by-facts _ ∙ rw (lines, entry-count lineOf (d .read-section .result .section), rules)))
 
 read-facts-requires : tie.Need-read-facts-requires
 read-facts-requires c κs =
@@ -60,7 +60,7 @@ returns-3 c =
     let d = e .before .before .before .before .before in
     let lines = line-part _ _ _ _ (d .read-section .ensures) .taken-as (e .before .before .before .lines-end .given .1) in
     let rules = rule-part _ _ _ _ (e .read-section2 .ensures) .taken-as (c .before .before .before .rules-end .given .1) in
-    rw (by-facts _, lines, entry-count lineOf (d .read-section .result .section), rules) (c .read-facts .ensures)
+    read-kept _ _ (rw (by-facts _, lines, entry-count lineOf (d .read-section .result .section), rules) (c .read-facts .ensures))
 
 pub read-sheet-spec : {M : Type 1} → statement M
 read-sheet-spec =
