@@ -19,7 +19,7 @@ const P11: &str = "04 0200 0201 060001 01 02 0002 0103 01 01 0000 00";
 
 fn bytes(hex: &str) -> Vec<u8> {
     let digits: String = hex.split_whitespace().collect();
-    assert!(digits.len() % 2 == 0);
+    assert!(digits.len().is_multiple_of(2));
     (0..digits.len() / 2).map(|i| u8::from_str_radix(&digits[2 * i..2 * i + 2], 16).unwrap()).collect()
 }
 
@@ -313,7 +313,7 @@ fn desk_limits() {
         "causes 00 0 0 0 0 4097",
         "causes 00 18446744073709551616 0 0 0 0",
         "causes 00 0 0 0 0",
-        "balance 00 18446744073709551615",
+        "balance 00 18446744073709551616",
         "balance 00",
         "weight 00 0",
         &format!("sat {long} 0 0 0"),
