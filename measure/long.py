@@ -7,10 +7,10 @@ classes, ports are numbered in the order in which they are named. `python3 measu
 
 HEAD = """\
 # Sheets that do not end: LABEL HEX sat|unsat, or LABEL HEX causes PORT CLASS SET.. (rule n of a set is worth 2^n).
-# Printed by measure/long.py, where they stand in words. Each takes second/ and ask more than five seconds, most of them more than a lifetime: one
+# Printed by measure/long.py, where they stand in words. Neither second/ nor ask answers one of them in five seconds, and second/ none in a minute: one
 # joint label after the other is tried, and what is wrong, or what would be right, is seen only once all ports have split on all rules.
-# The word behind the bytes is what FaCT++ 1.6.5 says, in a hundredth of a second (`to_fact HEX FOLDER` writes its input), and what the lines
-# above each sheet say why. They stand here for the landing that will end them.
+# What is known of an answer stands behind the bytes: it is seen by hand, as the lines above each sheet say, and FaCT++ 1.6.5 agrees, in two hundredths of
+# a second each (`to_fact HEX FOLDER` writes its input; for causes it was asked about every set of rules). They stand here for the landing that will end them.
 """
 
 KINDS = {"not": 3, "and": 4, "or": 5, "some": 6, "only": 7}
