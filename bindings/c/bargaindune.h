@@ -8,6 +8,17 @@
  *
  * No heap is taken and nothing is kept between calls, so threads may ask at once, each with buffers of its own.
  * The search calls itself for each mark that it adds, at most 32 at each of 8 individuals: leave it half a megabyte of stack.
+ *
+ * Time. Every call ends, but not every call ends in a lifetime, and what is lent does not bound it: records bound memory, not time.
+ * - Each or line that holds, each and line that fails and each rule may split a label in two: with the 12 rules of a full sheet 2^12 labels of one
+ *   element, with more such lines more.
+ * - The labels of individuals multiply together: 8 ports under 12 rules may have 2^96 joint labels, all of which are tried where none is fine.
+ * - Each record is expanded like a label of its own, and again in each pass of striking out; `bargaindune_causes` judges up to 2^12 sets of rules.
+ * Splits whose first branch is fine cost nothing, so that most sheets take microseconds (docs/MEASURED.md); but a sheet as a designer might write it,
+ * with a dozen rules, six ports and one assertion, can be one that does not end (measure/long.txt). The balance counts records, not time.
+ * Nothing cancels a call: there is no limit of steps, no flag that is looked at, and no call back. Where a sheet is not known to be short, ask in a process
+ * of its own, which can be killed, or in a thread that can be abandoned, with buffers that nobody frees or uses while it runs. An abandoned thread keeps its
+ * processor busy until the process ends. A call that was given up has said nothing: that is no answer 12, and no answer 13.
  */
 #ifndef BARGAINDUNE_H
 #define BARGAINDUNE_H

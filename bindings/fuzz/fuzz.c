@@ -1,4 +1,5 @@
 /* Arbitrary bytes, numbers and lengths through the exported functions: `fuzz SECONDS SEED FIRST` asks the questions of a seed, from the FIRST on.
+ * SECONDS is 1 to 1,000,000, the others have 64 bits; anything else is refused, and so is a run in which nothing was asked.
  *
  * Each question is put three times, over different entry contents:
  * - each buffer malloc'ed exactly as long as lent;
@@ -13,6 +14,7 @@
 #define _DEFAULT_SOURCE
 #include "bargaindune.h"
 
+#include <errno.h>
 #include <inttypes.h>
 #include <sanitizer/common_interface_defs.h>
 #include <stdbool.h>
@@ -170,6 +172,9 @@ static struct readout read_sheet(void)
     return r;
 }
 
+/* Sheets drawn, and those of them that were left out as too long. */
+static uint64_t drawn, left_out;
+
 /* A question that may take long is not asked: 2^splits labels at each port, for each set of rules. */
 static bool cheap(const struct readout *r)
 {
@@ -315,10 +320,14 @@ static struct readout choose_question(void)
 {
     struct readout r;
     q.function = (enum function)below(FUNCTIONS);
-    do {
+    for (;;) {
         choose_sheet();
         r = read_sheet();
-    } while (!cheap(&r));
+        drawn++;
+        if (cheap(&r))
+            break;
+        left_out++;
+    }
     q.records = choose_length();
     /* mostly as many marks as records or more, so that 7 does not answer too often */
     q.marks = once_in(8) ? choose_length() : q.records + (once_in(2) ? 0 : below(100));
@@ -578,11 +587,27 @@ static double seconds(void)
     return (double)t.tv_sec + 1e-9 * (double)t.tv_nsec;
 }
 
+/* An argument: decimal digits and nothing else, from `least` to `most`. */
+static uint64_t argument(const char *what, const char *said, uint64_t least, uint64_t most)
+{
+    errno = 0;
+    const uint64_t value = strtoull(said, NULL, 10);
+    if (said[0] == '\0' || said[strspn(said, "0123456789")] != '\0' || errno != 0 || value < least || value > most) {
+        fprintf(stderr, "fuzz: %s has to be a number from %" PRIu64 " to %" PRIu64 ", not '%s'\n", what, least, most, said);
+        exit(2);
+    }
+    return value;
+}
+
 int main(int argc, char **argv)
 {
-    const double whole = argc > 1 ? atof(argv[1]) : 60;
-    seed = argc > 2 ? strtoull(argv[2], NULL, 10) : 1;
-    const uint64_t first = argc > 3 ? strtoull(argv[3], NULL, 10) : 0;
+    if (argc > 4) {
+        fprintf(stderr, "fuzz [SECONDS [SEED [FIRST]]]\n");
+        exit(2);
+    }
+    const double whole = argc > 1 ? (double)argument("SECONDS", argv[1], 1, 1000000) : 60;
+    seed = argc > 2 ? argument("SEED", argv[2], 0, UINT64_MAX) : 1;
+    const uint64_t first = argc > 3 ? argument("FIRST", argv[3], 0, UINT64_MAX) : 0;
     static unsigned char kept[4 * MOST_LENGTH];
     const double start = seconds();
     double slowest = 0;
@@ -623,7 +648,12 @@ int main(int argc, char **argv)
                 printf("%-8s %2zu %10" PRIu64 "\n", function_names[f], n, counts[f][n]);
                 calls += counts[f][n];
             }
+    if (calls == 0) {
+        fprintf(stderr, "fuzz: nothing was asked\n");
+        return 1;
+    }
+    printf("left out as too long: %" PRIu64 " of %" PRIu64 " sheets drawn\n", left_out, drawn);
     printf("seed %" PRIu64 ", questions %" PRIu64 " to %" PRIu64 ", %" PRIu64 " calls in %.0f s, the slowest %.1f ms (question %" PRIu64 "): nothing outside the buffers changed\n",
-        seed, first, index_of_question, calls, seconds() - start, 1e3 * slowest, slowest_index);
+        seed, first, index_of_question - 1, calls, seconds() - start, 1e3 * slowest, slowest_index);
     return 0;
 }

@@ -1,5 +1,6 @@
 //! Questions and answers as lines of text: `sat HEX ROOM MARKS WORDS`, `causes HEX PORT CLASS ROOM MARKS SLOTS`,
-//! `balance HEX ROOM`. What is beyond the desk's buffers or not understood is answered `what?`.
+//! `balance HEX ROOM`. Between words stand blanks, tabs and carriage returns. A line without words, or whose first
+//! word starts with #, is no question. What is beyond the desk's buffers or not understood is answered `what?`.
 
 use crate::engine::{Answer, Engine};
 use crate::sheet::balance;
@@ -30,19 +31,21 @@ impl Desk {
 
     /// Puts the line of answer behind `out`; nothing for a blank line or a remark.
     pub fn answer(&mut self, line: &[u8], out: &mut Vec<u8>) {
-        if line.starts_with(b"#") || line.iter().all(u8::is_ascii_whitespace) {
+        let mut words = line.split(|&byte| is_blank(byte)).filter(|word| !word.is_empty());
+        let Some(verb) = words.next() else {
+            return;
+        };
+        if verb.starts_with(b"#") {
             return;
         }
-        if self.understood(line, out).is_none() {
+        if self.understood(verb, words, out).is_none() {
             out.extend_from_slice(b"what?");
         }
         out.push(b'\n');
     }
 
     /// Answers the question, or gives None before anything was put out.
-    fn understood(&mut self, line: &[u8], out: &mut Vec<u8>) -> Option<()> {
-        let mut words = line.split(u8::is_ascii_whitespace).filter(|word| !word.is_empty());
-        let verb = words.next()?;
+    fn understood<'a>(&mut self, verb: &[u8], words: impl Iterator<Item = &'a [u8]>, out: &mut Vec<u8>) -> Option<()> {
         let mut parts = [&b""[..]; 6];
         let mut count = 0;
         for word in words {
@@ -81,7 +84,7 @@ impl Desk {
 
     fn balance(&mut self, parts: &[&[u8]], out: &mut Vec<u8>) -> Option<()> {
         self.take_sheet(parts[0])?;
-        let room = number(parts[1], u64::MAX - 1)?;
+        let room = number(parts[1], u64::MAX)?;
         match balance(&self.sheet, room) {
             Ok(balance) => {
                 out.extend_from_slice(b"bal ");
@@ -108,6 +111,11 @@ impl Desk {
         }
         Some(())
     }
+}
+
+/// A line's own end is blank too.
+fn is_blank(byte: u8) -> bool {
+    matches!(byte, b' ' | b'\t' | b'\r' | b'\n')
 }
 
 fn digit(character: u8) -> Option<u8> {

@@ -53,11 +53,7 @@ impl Default for Engine {
 
 impl Engine {
     pub fn new() -> Engine {
-        Engine {
-            records: Records::default(),
-            joints: Joints::default(),
-            meter: Meter { steps: 0, budget: u64::MAX },
-        }
+        Engine { records: Records::default(), joints: Joints::default(), meter: Meter { steps: 0, budget: u64::MAX } }
     }
 
     /// Satisfiable or not, with the model.

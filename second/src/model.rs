@@ -34,10 +34,8 @@ impl Elements {
 
 /// The words of the model that starts from a good joint label.
 pub fn words(plan: &Plan, records: &Records, joint: &Joint) -> Vec<u32> {
-    let mut elements = Elements {
-        labels: joint[..plan.elements()].to_vec(),
-        of_record: vec![NO_ELEMENT; records.used()],
-    };
+    let mut elements =
+        Elements { labels: joint[..plan.elements()].to_vec(), of_record: vec![NO_ELEMENT; records.used()] };
     let mut edges: Vec<Edge> = Vec::new();
     let mut list = Vec::new();
     let mut from = 0;

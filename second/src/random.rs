@@ -3,7 +3,7 @@
 pub struct Random(pub u64);
 
 impl Random {
-    pub fn next(&mut self) -> u64 {
+    fn draw(&mut self) -> u64 {
         self.0 = self.0.wrapping_add(0x9e37_79b9_7f4a_7c15);
         let mut mixed = self.0;
         mixed = (mixed ^ (mixed >> 30)).wrapping_mul(0xbf58_476d_1ce4_e5b9);
@@ -13,7 +13,7 @@ impl Random {
 
     /// Below `many`, which is not 0.
     pub fn below(&mut self, many: u64) -> u64 {
-        self.next() % many
+        self.draw() % many
     }
 
     pub fn between(&mut self, least: u64, most: u64) -> u64 {

@@ -71,7 +71,7 @@ pub struct Asked {
     pub seed: Label,
 }
 
-/// The walk was longer than the budget given; only the generator gives one.
+/// The walk was longer than the budget given; only what draws sheets gives one.
 #[derive(Debug)]
 pub struct TooLong;
 

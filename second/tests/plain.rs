@@ -124,7 +124,7 @@ impl Plain<'_> {
 
     fn expansions(&mut self, seed: &Label) -> Result<Vec<Label>, Tired> {
         let mut out = Vec::new();
-        self.settle(&[seed.clone()], &[], &mut out)?;
+        self.settle(std::slice::from_ref(seed), &[], &mut out)?;
         Ok(out.into_iter().map(|joint| joint[0].clone()).collect())
     }
 
@@ -143,11 +143,12 @@ impl Plain<'_> {
         for joint in joints {
             let mut reached: Vec<Label> = joint.iter().flat_map(|label| self.seeds(label)).map(|(_, s)| s).collect();
             while let Some(seed) = reached.pop() {
-                if !records.contains_key(&seed) {
-                    let expansions = self.expansions(&seed)?;
-                    reached.extend(expansions.iter().flat_map(|label| self.seeds(label)).map(|(_, s)| s));
-                    records.insert(seed, expansions);
+                if records.contains_key(&seed) {
+                    continue;
                 }
+                let expansions = self.expansions(&seed)?;
+                reached.extend(expansions.iter().flat_map(|label| self.seeds(label)).map(|(_, s)| s));
+                records.insert(seed, expansions);
             }
             let good = self.satisfiable(&records);
             if joint.iter().all(|label| self.all_good(label, &good)) {

@@ -5,6 +5,7 @@
 //!
 //! [`satisfy`], [`causes`] and [`balance`] take buffers from the caller, of any length, and allocate nothing. [`Desk`] owns buffers
 //! that suffice. A call takes up to half a megabyte of stack and keeps nothing, so threads may ask at once.
+//! Every call ends, but some not in a lifetime: see [time](#time).
 //!
 //! ```
 //! use bargaindune::{Desk, Listed, Verdict};
@@ -16,6 +17,43 @@
 //! assert_eq!(desk.causes(&sheet, 0, 2), Ok(Listed::Causes(&[0b011, 0b100])));
 //! // one element, in which the names 0, 1 and 2 are true, and no edge
 //! assert_eq!(desk.satisfy(&sheet), Ok(Verdict::Model(&[1, 0b111, 0])));
+//! ```
+//!
+//! # Time
+//!
+//! Records lent bound memory and not time. What grows, and how:
+//! - Each or line that holds, each and line that fails and each rule may split a label in two: with the 12 rules of a full sheet 2^12 labels
+//!   of one element, with more such lines more.
+//! - The labels of individuals multiply together: 8 ports under 12 rules may have 2^96 joint labels, all of which are tried where none is fine.
+//! - Each record is expanded like a label of its own, and again in each pass of striking out; [`causes`] judges up to 2^12 sets of rules.
+//!
+//! Splits whose first branch is fine cost nothing, so that most sheets take microseconds (docs/MEASURED.md in the repository); but a sheet as a
+//! designer might write it, with a dozen rules, six ports and one assertion, can be one that does not end (measure/long.txt). [`balance`]
+//! counts records, not time.
+//!
+//! Nothing cancels a call: there is no limit of steps, no flag that is looked at, and no call back. Where a sheet is not known to be short, ask in a
+//! process of its own, which can be killed, or in a thread that can be abandoned; such a thread keeps its processor busy until the process ends.
+//! A call that was given up has said nothing, neither that the sheet cannot be met nor that it needs more records.
+//!
+//! ```
+//! use bargaindune::{Desk, Verdict};
+//! use std::sync::mpsc::channel;
+//! use std::time::Duration;
+//!
+//! // twelve names, rules n ⊑ n, eight ports, and port 7 has a neighbour in bottom: a person sees at once that it cannot be met
+//! let mut sheet = vec![14];
+//! sheet.extend((0..12).flat_map(|name| [2, name]));
+//! sheet.extend([1, 6, 0, 12, 12]);
+//! sheet.extend((0..12).flat_map(|line| [line, line]));
+//! sheet.extend([8, 1, 7, 13, 0]);
+//! let (tell, told) = channel();
+//! std::thread::spawn(move || {
+//!     let mut desk = Desk::new();
+//!     let can_be_met = desk.satisfy(&sheet).map(|verdict| matches!(verdict, Verdict::Model(_)));
+//!     let _ = tell.send(can_be_met);
+//! });
+//! // the thread has the desk to itself and is left alone
+//! assert!(told.recv_timeout(Duration::from_millis(200)).is_err());
 //! ```
 #![deny(missing_docs)]
 #![deny(unsafe_op_in_unsafe_fn)]
@@ -449,7 +487,7 @@ pub enum Listed<'a> {
     OutOfSpace,
 }
 
-/// Buffers for any sheet, made once: 4,096 records and marks, slots for any cause list, and words for a model, more where one is longer.
+/// Buffers for any sheet, which says nothing of [time](crate#time), made once: 4,096 records and marks, slots for any cause list, and words for a model, more where one is longer.
 ///
 /// ```
 /// use bargaindune::{Desk, Verdict};

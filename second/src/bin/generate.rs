@@ -3,13 +3,15 @@
 //! larger. `--count` tells on standard error how often the second engine gives each answer.
 //!
 //! Most questions aim at one answer number; the engine itself says what a sheet needs. Sheets whose search goes
-//! beyond a budget of steps are thrown away, so that every question stays cheap.
+//! beyond a budget of steps are thrown away, so that every question stays cheap. How many that were of how many
+//! searched is told on standard error.
 
 use second::desk::Desk;
 use second::engine::{Engine, Need};
 use second::form::{self, Sort};
 use second::random::Random;
 use second::sheet::{read, Sheet, SOME};
+use second::verdict::Halt;
 use std::collections::BTreeMap;
 use std::io::{self, BufWriter, Write};
 
@@ -62,6 +64,9 @@ enum Aim {
 struct Generator {
     random: Random,
     engine: Engine,
+    /// searches begun, and those given up since they went beyond the budget
+    searched: u64,
+    left_out: u64,
 }
 
 /// A cause query that may be asked of a sheet.
@@ -94,7 +99,7 @@ fn usage() -> io::Result<()> {
 }
 
 fn generate(many: u64, seed: u64, count: bool) -> io::Result<()> {
-    let mut generator = Generator { random: Random(seed), engine: Engine::new() };
+    let mut generator = Generator { random: Random(seed), engine: Engine::new(), searched: 0, left_out: 0 };
     let mut output = BufWriter::new(io::stdout().lock());
     let mut counter = Counter { desk: Desk::new(), counts: BTreeMap::new() };
     for _ in 0..many {
@@ -108,6 +113,8 @@ fn generate(many: u64, seed: u64, count: bool) -> io::Result<()> {
     for (name, number) in &counter.counts {
         eprintln!("{name:<14} {number:>6}");
     }
+    let Generator { searched, left_out, .. } = generator;
+    eprintln!("left out as too long (over {BUDGET} steps): {left_out} of {searched} searched");
     Ok(())
 }
 
@@ -188,18 +195,29 @@ impl Generator {
     }
 
     fn sat_need(&mut self, sheet: &Sheet) -> Option<Need> {
+        self.start_meter();
+        let need = self.engine.sat_need(sheet);
+        self.counted(need)
+    }
+
+    fn start_meter(&mut self) {
         self.engine.meter.steps = 0;
         self.engine.meter.budget = BUDGET;
-        self.engine.sat_need(sheet).ok()
+    }
+
+    fn counted(&mut self, need: Result<Need, Halt>) -> Option<Need> {
+        self.searched += 1;
+        self.left_out += need.is_err() as u64;
+        need.ok()
     }
 
     fn causes_need(&mut self, sheet: &Sheet, port: u64, class: u64) -> Option<Need> {
         if port >= sheet.individuals as u64 || class >= sheet.lines.len() as u64 {
             return None;
         }
-        self.engine.meter.steps = 0;
-        self.engine.meter.budget = BUDGET;
-        self.engine.causes_need(sheet, port as u8, class as u8).ok()
+        self.start_meter();
+        let need = self.engine.causes_need(sheet, port as u8, class as u8);
+        self.counted(need)
     }
 
     /// A room in which the need fits: exact, one more, some more, or all there may be.
