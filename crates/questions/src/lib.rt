@@ -5,11 +5,12 @@
 // HEX is the sheet in hexadecimal without blanks, and - for an empty one. Any other question is answered `what?`; lines without words and remarks are passed over.
 // docs/FORMAT.md has the grammar. A line is answered before more of the input is read.
 // It rests on desk, answers, sheet and balance for the answers, and on lines for reading and printing.
+mod ones; // buffers of ones, lent and then printed
+
 use answers::Answer;
 use balance::Margin;
 use lines::input;
 use lines::input::Input;
-use lines::ones;
 use lines::print;
 use lines::words;
 use lines::words::Said;

@@ -1,5 +1,5 @@
 -- The invariant: what was said of the digits so far stands in the buffer (`Laying`). The measure: how many bytes are left to lay.
-use mathlib.Core.Path.{_≡_, refl, sym}
+use mathlib.Core.Path.{refl, sym}
 use Prim.Native.Nat.{_-_, _≤_}
 use native.Mathlib.Omega.{arith}
 use Rattle.lines.proofs.Spelled.{Laying, laying-none, laying-turn, laying-ends, not-laid, laid-odd, laid-long}
