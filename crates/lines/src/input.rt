@@ -1,4 +1,4 @@
-// Standard input, line by line. It rests on io, which reads a chunk at a time.
+// Standard input, line by line. It rests on libc's read and on io's count of what that gave.
 ghost use Prim.Native.Nat.{_≤_};
 ghost use lib.ListN.{length};
 
@@ -22,7 +22,7 @@ pub fn start() -> Input
     }
 }
 
-// Reads the next chunk where all of the last is taken.
+// Reads the next chunk where all of the last is taken: one call, which takes what is there and waits only where nothing is.
 fn refilled(input: Input, chunk: &mut [u8; SIZE]) -> Input
     requires { ⌜ input .got ≤ 65536 ⌝ }
     ensures { λ r. ⌜ r .got ≤ 65536 ⌝ }
@@ -30,10 +30,10 @@ fn refilled(input: Input, chunk: &mut [u8; SIZE]) -> Input
     if input.at < input.got {
         return input;
     }
-    let got = io::read_full(0, chunk);
+    let got = libc::read(0, chunk);
     Input {
         at: 0,
-        got: got,
+        got: io::count(got, chunk),
         length: 0,
     }
 }

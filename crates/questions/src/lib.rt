@@ -2,14 +2,15 @@
 //   sat HEX ROOM MARKS WORDS: the reply's number and value, and all words of the model buffer as it ends, or `untouched`
 //   causes HEX PORT CLASS ROOM MARKS SLOTS: the same, with the slots of the list buffer
 //   balance HEX ROOM: `bal` and what is left, or the refusal's number and value
-// HEX is the sheet in hexadecimal without blanks, and - for an empty one. Any other question is answered `what?`.
-// Lines without words, and those whose first word starts with #, are passed over.
+// HEX is the sheet in hexadecimal without blanks, and - for an empty one. Any other question is answered `what?`; lines without words and remarks are passed over.
+// docs/FORMAT.md has the grammar. A line is answered before more of the input is read.
 // It rests on desk, answers, sheet and balance for the answers, and on lines for reading and printing.
+mod ones; // buffers of ones, lent and then printed
+
 use answers::Answer;
 use balance::Margin;
 use lines::input;
 use lines::input::Input;
-use lines::ones;
 use lines::print;
 use lines::words;
 use lines::words::Said;
@@ -142,9 +143,14 @@ fn question(line: &[u8], bytes: &[u8]) {
     what();
 }
 
-fn answer(line: &[u8]) {
+// Answers a line as it was read. One that fills its buffer may have lost its end.
+fn answer(whole: &[u8]) {
+    let line = words::trimmed(whole);
     if words::says_nothing(line) {
         return;
+    }
+    if whole.len() == input::SIZE {
+        return what();
     }
     let mut bytes = io::buffer();
     let n = words::bytes(line, 1, &mut bytes);

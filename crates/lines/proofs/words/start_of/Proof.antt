@@ -1,21 +1,25 @@
--- The invariant: the place stays in the line. The measure: how many words are left to pass over.
-use Prim.Native.Nat.{_≤_}
+-- The invariant: this is where word k starts. The measure: how many words are left to pass over.
+use mathlib.Core.Path.{_≡_, ap, _∙_}
+use Prim.Native.Nat.{_-_, _≤_}
+use native.Mathlib.Omega.{arith}
 use lib.ListN.{length}
 use borrow.Author.Needs.{needs}
+use Rattle.lines.specs.Words.{startOf}
+use Rattle.lines.proofs.Spelled.{start-first, start-turn}
 use Rattle.lines.proofs.words.start_of.Statement.{statement}
 use Rattle.lines.proofs.words.start_of.Tie as tie
 
 abbrev Inv-loop : tie.InvT-loop
-Inv-loop line n at₀ left₀ at left = at ≤ length line
+Inv-loop line n at₀ k₀ at k = (k ≤ n) × ((at ≡ startOf line k) × (at ≤ length line))
 
 abbrev μ-loop : tie.MeasureT-loop
-μ-loop line n at₀ left₀ at left = left
+μ-loop line n at₀ k₀ at k = n - k
 
 end-of-requires : tie.Need-end-of-requires Inv-loop μ-loop
 end-of-requires c κs = search needs
 
 loop-holds : tie.Need-loop-holds Inv-loop μ-loop
-loop-holds c = search needs
+loop-holds c = (omega arith, (start-first _ _ (c .end-of .ensures .0), c .end-of .ensures .1))
 
 end-of-requires-2 : tie.Need-end-of-requires-2 Inv-loop μ-loop
 end-of-requires-2 c κs = search needs
@@ -23,17 +27,22 @@ end-of-requires-2 c κs = search needs
 end-of-requires-3 : tie.Need-end-of-requires-3 Inv-loop μ-loop
 end-of-requires-3 c κs = search needs
 
-sub-left : tie.Need-sub-left Inv-loop μ-loop
-sub-left c = search needs
+add-k : tie.Need-add-k Inv-loop μ-loop
+add-k c = search needs
 
 loop-less : tie.Need-loop-less Inv-loop μ-loop
 loop-less c = search needs
 
 loop-again : tie.Need-loop-again Inv-loop μ-loop
-loop-again c = search needs
+loop-again c =
+    let p = c .before .before .before in
+    (omega arith, (start-turn _ (p .loop .k) _ _ _ (p .loop .inv .1 .0) (c .before .end-of2 .ensures .0) (c .end-of3 .ensures .0), c .end-of3 .ensures .1))
 
 returns : tie.Need-returns Inv-loop μ-loop
-returns c = search needs
+returns c =
+    let s = c .before .before .before .before .args in
+    let e : c .before .loop .k ≡ s .n = omega arith in
+    (c .before .loop .inv .1 .0 ∙ ap (startOf (s .line .now)) e, c .before .loop .inv .1 .1)
 
 pub start-of-spec : {M : Type 1} → statement M
 start-of-spec =
@@ -45,7 +54,7 @@ start-of-spec =
     loop-holds
     end-of-requires-2
     end-of-requires-3
-    sub-left
+    add-k
     loop-less
     loop-again
     returns)

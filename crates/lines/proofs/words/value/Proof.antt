@@ -1,18 +1,23 @@
--- `words::value`. The measure: how many digits are left.
-use Prim.Native.Nat.{_-_}
-use lib.ListN.{length}
+-- The invariant: the digits from here on, behind the number so far, say what the whole word says. The measure: how many digits are left.
+use mathlib.Core.Path.{_≡_, refl, sym, _∙_}
+use Prim.Native.Nat.{_-_, _≤_}
+use native.Mathlib.Omega.{arith}
+use lib.ListN.{length, drop}
+use Rattle.lines.specs.declared.words.Said.the-variants.{Is}
+use Rattle.lines.specs.Words.{andDigits}
+use Rattle.lines.proofs.Spelled.{digits-turn, digits-stop, digits-end, number-some, number-none}
 use borrow.Author.Needs.{needs}
 use Rattle.lines.proofs.words.value.Statement.{statement}
 use Rattle.lines.proofs.words.value.Tie as tie
 
 abbrev Inv-loop : tie.InvT-loop
-Inv-loop word n₀ i₀ n i = Unit {0}
+Inv-loop word n₀ i₀ n i = (i ≤ length word) × (andDigits (drop i word) (Is n) ≡ andDigits word (Is 0))
 
 abbrev μ-loop : tie.MeasureT-loop
 μ-loop word n₀ i₀ n i = length word - i
 
 loop-holds : tie.Need-loop-holds Inv-loop μ-loop
-loop-holds c = search needs
+loop-holds c = (omega arith, refl)
 
 shared-slice-read-with-digit : tie.Need-shared-slice-read-with-digit Inv-loop μ-loop
 shared-slice-read-with-digit c = search needs
@@ -27,7 +32,11 @@ enum-told : tie.Need-enum-told Inv-loop μ-loop
 enum-told c = search needs
 
 returns : tie.Need-returns Inv-loop μ-loop
-returns c = search needs
+returns c =
+    let d = c .before .before in
+    let p = d .before .before .before in
+    number-some _ _ (omega arith)
+    (digits-stop _ (p .loop .n) (p .loop .i) _ (p .loop .inv .1) (omega arith) (sym (d .with-digit .ensures) ∙ c .enum-told .given .1))
 
 add-i : tie.Need-add-i Inv-loop μ-loop
 add-i c = search needs
@@ -36,13 +45,16 @@ loop-less : tie.Need-loop-less Inv-loop μ-loop
 loop-less c = search needs
 
 loop-again : tie.Need-loop-again Inv-loop μ-loop
-loop-again c = search needs
+loop-again c =
+    let d = c .before .before .before in
+    let p = d .before .before .before in
+    (omega arith, digits-turn _ (p .loop .n) (p .loop .i) _ (p .loop .inv .1) _ (omega arith) (sym (d .with-digit .ensures) ∙ c .before .more .given .1))
 
 returns-2 : tie.Need-returns-2 Inv-loop μ-loop
-returns-2 c = search needs
+returns-2 c = number-none _ (omega arith)
 
 returns-3 : tie.Need-returns-3 Inv-loop μ-loop
-returns-3 c = search needs
+returns-3 c = let p = c .before .before in number-some _ _ (omega arith) (digits-end _ (p .loop .n) (p .loop .i) _ (p .loop .inv .1) (omega arith))
 
 pub value-spec : {M : Type 1} → statement M
 value-spec =

@@ -2,8 +2,8 @@
 use Prim.Native.Nat.{_-_}
 use lib.ListN.{length}
 use borrow.Author.Needs.{needs}
-use Rattle.lines.proofs.ones.still_16.Statement.{statement}
-use Rattle.lines.proofs.ones.still_16.Tie as tie
+use Rattle.questions.proofs.ones.still_16.Statement.{statement}
+use Rattle.questions.proofs.ones.still_16.Tie as tie
 
 abbrev Inv-loop : tie.InvT-loop
 Inv-loop slots i₀ i = Unit {0}

@@ -1,5 +1,5 @@
-// Buffers of ones, in which zeros are seen as well as what else is written; and such a buffer printed, to the line's end. It rests on print and io.
-use crate::print;
+// Buffers of ones, in which zeros are seen as well as what else is written; and such a buffer printed, to the line's end. It rests on lines and io.
+use lines::print;
 ghost use mathlib.Core.Path.{_≡_};
 ghost use lib.ListN.{length};
 

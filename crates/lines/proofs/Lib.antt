@@ -1,0 +1,2 @@
+-- Laws of words, numbers and bytes.
+pub mod Spelled

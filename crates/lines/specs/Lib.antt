@@ -1,0 +1,2 @@
+-- The words of a line, and what a word says.
+pub mod Words
