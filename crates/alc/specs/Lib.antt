@@ -12,6 +12,8 @@ pub mod Model
 pub mod Causes
 pub mod Replies
 pub mod Promises
+pub mod Writing
 pub mod Bench
 pub mod Readings
+pub mod Written
 pub mod Theorems

@@ -25,3 +25,4 @@ pub mod Answers
 pub mod Bytes
 pub mod Words
 pub mod Promises
+pub mod Writing

@@ -5,12 +5,12 @@ use Prim.Native.Nat.{ℕ, zero, suc, _<_}
 use native.Mathlib.Omega.{arith}
 use Rattle.alc.specs.Bytes.{Read, refused, taken, then, belowAt, operandsAt, ruleAt, classAt}
 use Rattle.sheet.specs.declared.Reason.{Reason}
-use Rattle.sheet.specs.Form.{Triple, triple, lineTriple, ruleTriple, classTriple, reasonNumber}
+use Rattle.sheet.specs.Form.{operandCount, Triple, triple, lineTriple, ruleTriple, classTriple, reasonNumber}
 use Rattle.numbers.specs.declared.Number.{Number}
 use Rattle.numbers.specs.declared.Number.the-variants.{Value, Refused}
 use Rattle.numbers.specs.Form.{numberRead}
 use Rattle.reader.specs.declared.sections.Entry.{Entry}
-use Rattle.reader.specs.Parts.{entryRead, operandCount, firstLimit, firstReason, operandsBy, reading, pairAt, refusedEntry}
+use Rattle.reader.specs.Parts.{entryRead, firstLimit, firstReason, operandsBy, reading, pairAt, refusedEntry}
 use Rattle.reader.specs.Reading.{then-then}
 
 -- ---- from the code's answer to what was read

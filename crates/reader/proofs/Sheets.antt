@@ -16,7 +16,7 @@ use Rattle.numbers.specs.Reading.{given}
 use Rattle.reader.specs.declared.sections.Stop.{Stop}
 use Rattle.reader.specs.declared.sections.Stop.the-variants.{Behind, Refused}
 use Rattle.reader.specs.declared.sections.SectionRead.{SectionRead}
-use Rattle.reader.specs.declared.sections.Kind.the-variants.{Lines, Rules, Classes, Roles}
+use Rattle.sheet.specs.declared.Kind.the-variants.{Lines, Rules, Classes, Roles}
 use Rattle.reader.specs.Parts.{stopRead, reading, SectionPromise, Tidy, sectionAt, refusedSheet, acceptedSheet, factsAt}
 use Rattle.reader.specs.Promise.{ReadsAs}
 use Rattle.reader.specs.Reading.{then-then, counted-map, roles-give}

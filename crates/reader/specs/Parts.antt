@@ -10,6 +10,8 @@ use Rattle.alc.specs.Sheet as theory
 use Rattle.alc.specs.Bytes.{Read, refused, taken, then, belowAt, lineAt, ruleAt, classAt, roleAt, severalAt, countedAt}
 use Rattle.sheet.specs.declared.Reason.{Reason}
 use Rattle.sheet.specs.declared.Reason.the-variants.{Cut, TooLarge, NotThere}
+use Rattle.sheet.specs.declared.Kind.{Kind}
+use Rattle.sheet.specs.declared.Kind.the-variants.{Lines, Rules, Classes, Roles}
 use Rattle.sheet.specs.declared.Section.{Section}
 use Rattle.sheet.specs.declared.Outcome.{Outcome}
 use Rattle.sheet.specs.declared.Outcome.the-variants.{Accepted, Refused as refusedOutcome}
@@ -17,8 +19,6 @@ use Rattle.sheet.specs.declared.Readout.{Readout}
 use Rattle.sheet.specs.Form.{reasonNumber, Triple, triple, sectionForm, triples, lineTriple, ruleTriple, classTriple, roleTriple, formOf, emptySheet}
 use Rattle.numbers.specs.declared.Number.{Number}
 use Rattle.numbers.specs.declared.Number.the-variants.{Value, Refused as refusedNumber}
-use Rattle.reader.specs.declared.sections.Kind.{Kind}
-use Rattle.reader.specs.declared.sections.Kind.the-variants.{Lines, Rules, Classes, Roles}
 use Rattle.reader.specs.declared.sections.Entry.{Entry}
 use Rattle.reader.specs.declared.sections.Entry.the-variants.{Numbers, Refused as badEntry}
 use Rattle.reader.specs.declared.sections.Stop.{Stop}
@@ -35,14 +35,6 @@ stopRead a (Behind p) = taken a p
 stopRead a (refusedStop why p) = refused (reasonNumber why) p
 
 -- ---- the parts of a line
--- "Operands per kind, 0 to 7: 0, 0, 1, 1, 2, 2, 2, 2"
-abbrev pub operandCount : ℕ → ℕ
-operandCount zero = 0
-operandCount (suc zero) = 0
-operandCount (suc (suc zero)) = 1
-operandCount (suc (suc (suc zero))) = 1
-operandCount (suc (suc (suc (suc k)))) = 2
-
 -- what the first operand of a kind is below, and why it is refused
 unfoldable pub firstLimit : ℕ → ℕ → ℕ
 firstLimit k own = elim (eqb k 2) [ true ↦ nameCount | false ↦ elim (ltb 5 k) [ true ↦ roleCount | false ↦ own ] ]

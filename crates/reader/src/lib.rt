@@ -2,13 +2,13 @@
 // What is right stands in alc's specs/Bytes.antt; specs/Promise.antt says what the reader promises, sheet's specs/Form.antt what the form means.
 pub mod sections; // the entries of a section, and the whole section
 
-use crate::sections::Kind;
 use crate::sections::Stop;
 use crate::sections::empty_section;
 use crate::sections::number_stop;
 use crate::sections::read_section;
 use numbers::Number;
 use numbers::read_below;
+use sheet::Kind;
 use sheet::Outcome;
 use sheet::Readout;
 use sheet::Reason;

@@ -2,23 +2,17 @@
 // What is right stands in alc's specs/Bytes.antt; specs/Parts.antt says what the answers here mean.
 use numbers::Number;
 use numbers::read_below;
+use sheet::Kind;
 use sheet::MOST;
 use sheet::Reason;
 use sheet::Section;
+use sheet::operands;
 ghost use mathlib.Core.Path.{_≡_};
 ghost use mathlib.Core.List.{[]};
 ghost use Prim.Native.Nat.{ℕ, _<_, _≤_};
 ghost use Rattle.alc.specs.Bytes.{lineAt, roleAt};
-ghost use Rattle.sheet.specs.Form.{sectionForm, lineTriple, roleTriple};
-ghost use Rattle.reader.specs.Parts.{entryRead, SectionPromise, operandCount, firstLimit, firstReason, operandsBy, reading, pairAt, entryAt, entriesAt, sectionAt, mostOf, refusedEntry, refusedSection, numberStop, entryStop};
-
-// Which section.
-pub enum Kind {
-    Lines,
-    Rules,
-    Classes,
-    Roles,
-}
+ghost use Rattle.sheet.specs.Form.{operandCount, sectionForm, lineTriple, roleTriple};
+ghost use Rattle.reader.specs.Parts.{entryRead, SectionPromise, firstLimit, firstReason, operandsBy, reading, pairAt, entryAt, entriesAt, sectionAt, mostOf, refusedEntry, refusedSection, numberStop, entryStop};
 
 // The numbers of an entry and the place behind them, or the refusal. Numbers that an entry does not have are 0.
 pub enum Entry {
@@ -36,16 +30,6 @@ pub enum Stop {
 pub struct SectionRead {
     pub section: Section,
     pub outcome: Stop,
-}
-
-// How many operands a line of each kind has.
-const OPERANDS: [u8; 8] = [0, 0, 1, 1, 2, 2, 2, 2];
-
-fn operands(kind: usize) -> u8
-    requires { ⌜ kind < 8 ⌝ }
-    ensures { λ r. ⌜ r ≡ operandCount kind ⌝ }
-{
-    OPERANDS[kind]
 }
 
 // What the first operand is below: names below 32, roles below 8, lines below their own.
@@ -89,7 +73,7 @@ fn read_operands(s: &[u8], at: usize, own: u16, kind: u16) -> Entry
     requires { ⌜ kind < 8 ⌝ }
     ensures { λ r. ⌜ entryRead r ≡ operandsBy (operandCount kind) (now (s .entry)) own kind at ⌝ }
 {
-    let wanted = operands(kind as usize);
+    let wanted = operands(kind);
     if wanted == 0 {
         return Entry::Numbers(kind, 0, 0, at);
     }

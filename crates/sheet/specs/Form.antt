@@ -1,14 +1,18 @@
 -- What the code's values mean: a sheet as the code holds it and the sheet of alc's definitions, each from the other; and what an outcome says of a reading.
 -- Definitions only.
 use Prim.Native.Nat.{ℕ, zero, suc, _-_}
-use mathlib.Core.List.{List, [], _++_, map}
-use lib.ListN.{length, getD, replicate}
-use Rattle.alc.specs.Lists.{upTo}
+use mathlib.Core.Bool.{cond}
+use mathlib.Core.List.{List, [], _∷_, _++_, map}
+use lib.ListN.{length, getD, take, replicate}
+use lib.Dec.{leb}
+use Rattle.alc.specs.Lists.{upTo, each}
 use Rattle.alc.specs.Sheet.{Line, top, bottom, name, not, and, or, some, only, Rule, ClassAssertion, RoleAssertion, mostLines}
 use Rattle.alc.specs.Sheet as theory
 use Rattle.alc.specs.Bytes.{Read, refused, taken}
 use Rattle.sheet.specs.declared.Reason.{Reason}
 use Rattle.sheet.specs.declared.Reason.the-variants.{Cut, BadlyFormed, OverLimit, TooLarge, NotThere, LeftOver, LentBadly, OffSheet}
+use Rattle.sheet.specs.declared.Kind.{Kind}
+use Rattle.sheet.specs.declared.Kind.the-variants.{Lines, Rules, Classes, Roles}
 use Rattle.sheet.specs.declared.Section.{Section}
 use Rattle.sheet.specs.declared.Sheet.{Sheet}
 use Rattle.sheet.specs.declared.Outcome.{Outcome}
@@ -24,6 +28,18 @@ reasonNumber NotThere = 5
 reasonNumber LeftOver = 6
 reasonNumber LentBadly = 7
 reasonNumber OffSheet = 8
+
+-- "Operands per kind, 0 to 7: 0, 0, 1, 1, 2, 2, 2, 2"; a kind above 7 is none, and has none
+abbrev pub operandCount : ℕ → ℕ
+operandCount zero = 0
+operandCount (suc zero) = 0
+operandCount (suc (suc zero)) = 1
+operandCount (suc (suc (suc zero))) = 1
+operandCount (suc (suc (suc (suc zero)))) = 2
+operandCount (suc (suc (suc (suc (suc zero))))) = 2
+operandCount (suc (suc (suc (suc (suc (suc zero)))))) = 2
+operandCount (suc (suc (suc (suc (suc (suc (suc zero))))))) = 2
+operandCount (suc (suc (suc (suc (suc (suc (suc (suc k)))))))) = 0
 
 -- ---- entries and sections
 -- the numbers of an entry; those that it does not have are 0
@@ -92,6 +108,26 @@ roleOf t = record { role = t .first; source = t .second; target = t .third }
 
 abbrev pub roleTriple : RoleAssertion → Triple
 roleTriple e = triple (e .role) (e .source) (e .target)
+
+-- ---- the numbers of a form, in the sheet's order
+-- how many of its three numbers an entry has, by its first
+abbrev pub entryWidth : Kind → ℕ → ℕ
+entryWidth Lines k = suc (operandCount k)
+entryWidth Rules k = 2
+entryWidth Classes k = 2
+entryWidth Roles k = 3
+
+abbrev pub entryNumbers : Kind → Triple → List ℕ
+entryNumbers kind t = take (entryWidth kind (t .first)) (t .first ∷ t .second ∷ t .third ∷ [])
+
+-- the count, the entries, and more behind them; of a count above the most that a form holds there are no entries, and nothing stands behind it
+unfoldable pub sectionNumbers : Kind → Section → List ℕ → List ℕ
+sectionNumbers kind s more = s .count ∷ cond (leb (s .count) mostLines) (each (entryNumbers kind) (triples s) ++ more) []
+
+unfoldable pub numbersOf : Sheet → List ℕ
+numbersOf s =
+    sectionNumbers Lines (s .lines) (sectionNumbers Rules (s .rules) (
+    s .individuals ∷ sectionNumbers Classes (s .classes) (sectionNumbers Roles (s .roles) [])))
 
 -- ---- the whole sheet
 unfoldable pub sheetOf : Sheet → theory.Sheet

@@ -1,7 +1,7 @@
 // Sheets: the form in which the code holds one, why one is refused, and what a reader of sheets hands back.
 // What is right stands in alc's specs/Sheet.antt and specs/Bytes.antt; specs/Form.antt says what the form means.
 ghost use mathlib.Core.Path.{_≡_};
-ghost use Rattle.sheet.specs.Form.{reasonNumber};
+ghost use Rattle.sheet.specs.Form.{reasonNumber, operandCount};
 
 // Why the desk refuses, by document 01's numbers 1 to 8.
 pub enum Reason {
@@ -14,6 +14,17 @@ pub enum Reason {
     LentBadly,
     OffSheet,
 }
+
+// Which section.
+pub enum Kind {
+    Lines,
+    Rules,
+    Classes,
+    Roles,
+}
+
+// How many operands a line of each kind has.
+const OPERANDS: [u8; 8] = [0, 0, 1, 1, 2, 2, 2, 2];
 
 // The largest count of any section.
 pub const MOST: usize = 32;
@@ -61,4 +72,14 @@ pub fn reason_number(r: Reason) -> u64
         Reason::LentBadly => 7,
         Reason::OffSheet => 8,
     }
+}
+
+// How many operands a line of this kind has; a kind above 7 is none, and has none.
+pub fn operands(kind: u16) -> u8
+    ensures { λ r. ⌜ r ≡ operandCount kind ⌝ }
+{
+    if 7 < kind {
+        return 0;
+    }
+    OPERANDS[kind as usize]
 }

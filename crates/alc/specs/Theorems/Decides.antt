@@ -12,7 +12,8 @@ use Rattle.alc.specs.Sheet.{ClassAssertion, RoleAssertion, count, Sheet}
 use Rattle.alc.specs.Meaning.{meetsRoles, meetsClasses, meets, meetsRules, truth, Interpretation}
 use Rattle.alc.specs.Label.{TrueAt, clashes, lineOf, blank, markTrue, Label, holds, has}
 use Rattle.alc.specs.Settle.{label, settle, Joint, markAt}
-use Rattle.alc.specs.Seeds.{bound, reach, Ask, among, seeds, seedSurvives, fine, asks, SeedSatisfiable, expansions, survivors, successors, includeAll, universe}
+use Rattle.alc.specs.Seeds.{bound, reach, Ask, among, seeds, seedSurvives, fine, asks, SeedSatisfiable, expansions, survivors, successors, includeAll}
+use Rattle.alc.specs.Seeds.{universe}
 use Rattle.alc.specs.Judge.{entries, SatisfiableWith, start, Entry, EntriesTrue, enter, firstFine, settledJoints}
 use Rattle.alc.specs.Model.{chosen, modelSeeds, orBlank, elementOf}
 use Rattle.alc.specs.Theorems.Lists.{tests-same, each-elim, all-elim, first-is, and-left, and-right, clashing, here, Found, and-both, all-intro, there}

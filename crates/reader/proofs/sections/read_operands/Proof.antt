@@ -2,9 +2,9 @@
 use mathlib.Core.Path.{_≡_, sym, _∙_}
 use borrow.Author.Needs.{needs}
 use Rattle.alc.specs.Bytes.{then, taken, belowAt}
-use Rattle.sheet.specs.Form.{triple, reasonNumber}
+use Rattle.sheet.specs.Form.{operandCount, triple, reasonNumber}
 use Rattle.numbers.specs.Form.{numberRead}
-use Rattle.reader.specs.Parts.{operandCount, firstLimit, firstReason, operandsBy}
+use Rattle.reader.specs.Parts.{firstLimit, firstReason, operandsBy}
 use Rattle.reader.proofs.Entries.{is-taken, is-refused, entry-refused, first-refused, one-operand, more}
 use Rattle.reader.proofs.sections.read_operands.Statement.{statement}
 use Rattle.reader.proofs.sections.read_operands.Tie as tie
