@@ -7,11 +7,15 @@ use answers::answer_value;
 use balance::Margin;
 use balance::balance;
 use sheet::reason_number;
+use writer::write_numbers;
+use writer::written_number;
+use writer::written_value;
 ghost use mathlib.Core.Path.{_≡_};
 ghost use Prim.Native.Nat.{_<_};
 ghost use lib.IntN.{pos};
 ghost use Rattle.alc.specs.Replies as replies;
 ghost use Rattle.alc.specs.Promises.{SatisfyPromise, CausesPromise, BalancePromise};
+ghost use Rattle.alc.specs.Writing.{WritePromise};
 
 // `satisfy`: document 01's number, and what it carries.
 #[no_mangle]
@@ -71,4 +75,14 @@ pub extern "C" fn bargaindune_balance(
             0
         }
     }
+}
+
+// `write_numbers`: 0, 16, or the refusal's number, and what it carries.
+#[no_mangle]
+pub extern "C" fn bargaindune_write(numbers: &[u16], out: &mut [u8], carried: &mut u64) -> u64
+    ensures { λ r. ⌜ WritePromise (now (numbers .entry)) (now (out .entry)) (record { number = r; carries = now (carried .exit); out = now (out .exit) }) ⌝ }
+{
+    let written = write_numbers(numbers, out);
+    *carried = written_value(written) as u64;
+    written_number(written)
 }

@@ -4,6 +4,7 @@
 use desk::export::bargaindune_balance;
 use desk::export::bargaindune_causes;
 use desk::export::bargaindune_satisfy;
+use desk::export::bargaindune_write;
 use lines::print;
 ghost use Prim.Native.Nat.{_≤_};
 ghost use lib.ListN.{length};
@@ -183,8 +184,43 @@ fn balance_all() {
     balance(b"\x01\x03\x00", 4097);
 }
 
+// Lends so many bytes.
+fn lend_bytes(numbers: &[u16], bytes: usize, out: &mut [u8])
+    requires { ⌜ bytes ≤ length (now out) ⌝ }
+{
+    let mut carried = 18446744073709551615u64;
+    let number = bargaindune_write(numbers, &mut out[0..bytes], &mut carried);
+    print::head(number, carried);
+    print::hex(out);
+}
+
+fn write(numbers: &[u16], bytes: usize)
+    requires { ⌜ bytes ≤ 8 ⌝ }
+{
+    let mut out = [255u8; 8];
+    lend_bytes(numbers, bytes, &mut out);
+}
+
+// P1 with a buffer that is longer, just long enough and too short; one number too few, and one too many; a name that needs a third byte,
+// and one over the limit with no buffer at all.
+fn write_all() {
+    let none = [0u16; 5];
+    write(&none, 8);
+    write(&none, 5);
+    write(&none, 4);
+    let few = [0u16; 4];
+    write(&few, 8);
+    let many = [0u16; 6];
+    write(&many, 8);
+    let third = [1u16, 2, 16384, 0, 0, 0, 0];
+    write(&third, 8);
+    let over = [1u16, 2, 32, 0, 0, 0, 0];
+    write(&over, 0);
+}
+
 fn main() {
     satisfy_all();
     causes_all();
     balance_all();
+    write_all();
 }

@@ -92,6 +92,40 @@ pub fn slots(slots: &[u16]) {
     finish(&mut text, n);
 }
 
+// A digit of hexadecimal.
+fn hex_digit(d: u8) -> u8 {
+    if d < 10 {
+        return 48 + d;
+    }
+    if d < 16 {
+        return 87 + d;
+    }
+    b'?'
+}
+
+// Lays a byte's two hexadecimal digits behind n bytes.
+fn put_hex(b: u8, text: &mut [u8; SPACE], n: usize) -> usize
+    requires { ⌜ n ≤ 4096 ⌝ }
+    ensures { λ r. ⌜ r ≤ 4096 ⌝ }
+{
+    let before = make_room(text, n);
+    let behind = lay_byte(hex_digit(b / 16), text, before);
+    lay_byte(hex_digit(b % 16), text, behind)
+}
+
+// Bytes in hexadecimal, to the line's end.
+pub fn hex(bytes: &[u8]) {
+    let mut text = io::buffer();
+    let mut n = 0;
+    let mut i = 0;
+    while i < bytes.len() {
+        n = put_hex(bytes[i], &mut text, n);
+        i += 1;
+    }
+    n = lay_byte(b' ', &mut text, n);
+    finish(&mut text, n);
+}
+
 // Two numbers with a blank between them.
 fn two(a: u64, b: u64) {
     io::print_decimal(1, a);

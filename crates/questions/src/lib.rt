@@ -2,6 +2,7 @@
 //   sat HEX ROOM MARKS WORDS: the reply's number and value, and all words of the model buffer as it ends, or `untouched`
 //   causes HEX PORT CLASS ROOM MARKS SLOTS: the same, with the slots of the list buffer
 //   balance HEX ROOM: `bal` and what is left, or the refusal's number and value
+//   write LENGTH N N ..: the writer's number and value for these numbers and a buffer of that length; then the bytes written in hexadecimal, or `untouched`
 // HEX is the sheet in hexadecimal without blanks, and - for an empty one. Any other question is answered `what?`; lines without words and remarks are passed over.
 // docs/FORMAT.md has the grammar. A line is answered before more of the input is read.
 // It rests on desk, answers, sheet and balance for the answers, and on lines for reading and printing.
@@ -14,7 +15,10 @@ use lines::input::Input;
 use lines::print;
 use lines::words;
 use lines::words::Said;
+use writer::Written;
+ghost use mathlib.Core.Path.{_≡_};
 ghost use Prim.Native.Nat.{_≤_};
+ghost use lib.ListN.{length};
 
 // To a question that is not understood, or asks for more than there is.
 fn what() {
@@ -129,6 +133,61 @@ fn balance(line: &[u8], bytes: &[u8]) {
     print_margin(balance::balance(bytes, room));
 }
 
+// The most numbers that a line may say, and the longest buffer that it may ask for.
+const MOST_NUMBERS: usize = 2048;
+
+// The numbers of a line behind its length, and how many; one more than there may be where some word says none of 16 bits.
+fn numbers_said(line: &[u8], numbers: &mut [u16]) -> usize
+    requires { ⌜ length (now numbers) ≡ 2048 ⌝ }
+    ensures { λ r. ⌜ r ≤ 2049 ⌝ }
+{
+    let mut n = 0;
+    while n < MOST_NUMBERS {
+        if words::asks(line, b"write", n + 2) {
+            return n;
+        }
+        let k = words::size(line, n + 2);
+        if k > 65535 {
+            return MOST_NUMBERS + 1;
+        }
+        numbers[n] = k as u16;
+        n += 1;
+    }
+    MOST_NUMBERS + 1
+}
+
+// What the writer says, and the buffer as it ends.
+fn print_written(w: Written, out: &[u8]) {
+    print::head(writer::written_number(w), writer::written_value(w) as u64);
+    match w {
+        Written::Done(n) => ones::print_8(out, n),
+        Written::Long(_) => ones::print_alone(out),
+        Written::Refused(_, _) => ones::print_alone(out),
+    }
+}
+
+// Writes the first n numbers into a buffer.
+fn write_into(numbers: &[u16], n: usize, out: &mut [u8])
+    requires { ⌜ n ≤ length (now numbers) ⌝ }
+{
+    let w = writer::write_numbers(&numbers[0..n], out);
+    print_written(w, out);
+}
+
+fn write(line: &[u8]) {
+    let length = words::size(line, 1);
+    if length > MOST_NUMBERS {
+        return what();
+    }
+    let mut numbers = [0u16; MOST_NUMBERS];
+    let n = numbers_said(line, &mut numbers);
+    if n > MOST_NUMBERS {
+        return what();
+    }
+    let mut out = ones::of_8();
+    write_into(&numbers, n, &mut out[0..length]);
+}
+
 // What the line asks about the sheet that it says.
 fn question(line: &[u8], bytes: &[u8]) {
     if words::asks(line, b"sat", 5) {
@@ -151,6 +210,9 @@ fn answer(whole: &[u8]) {
     }
     if whole.len() == input::SIZE {
         return what();
+    }
+    if words::asks(line, b"write", MOST_NUMBERS + 2) {
+        return write(line);
     }
     let mut bytes = io::buffer();
     let n = words::bytes(line, 1, &mut bytes);

@@ -49,6 +49,17 @@ fn still_16(slots: &[u16]) -> bool {
     true
 }
 
+fn still_8(bytes: &[u8]) -> bool {
+    let mut i = 0;
+    while i < bytes.len() {
+        if bytes[i] != 255 {
+            return false;
+        }
+        i += 1;
+    }
+    true
+}
+
 fn untouched() {
     io::write_all(1, b"untouched\n");
 }
@@ -71,4 +82,27 @@ pub fn print_16(slots: &[u16], alone: bool) {
         }
     }
     print::slots(slots);
+}
+
+fn spoiled() {
+    io::write_all(1, b"spoiled\n");
+}
+
+// Bytes that were to be left alone.
+pub fn print_alone(bytes: &[u8]) {
+    if still_8(bytes) {
+        return untouched();
+    }
+    spoiled();
+}
+
+// The first n bytes in hexadecimal, where those behind them were to be left alone.
+pub fn print_8(bytes: &[u8], n: usize) {
+    if bytes.len() < n {
+        return spoiled();
+    }
+    if still_8(&bytes[n..]) {
+        return print::hex(&bytes[0..n]);
+    }
+    spoiled();
 }
