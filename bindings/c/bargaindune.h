@@ -1,10 +1,10 @@
-/* Bargaindune for C: three questions about a sheet, answered by target/staticlib/libdesk.a (`rt staticlib desk` makes it).
+/* Bargaindune for C: a writer of sheets and three questions about a sheet, answered by target/staticlib/libdesk.a (`rt staticlib desk` makes it).
  *
  * docs/FORMAT.md says what a sheet, a model and a cause list are, byte for byte; docs/PROMISES.md says what is proved.
  * The functions take any bytes, any numbers and buffers of any length. What they are proved to do rests on this alone, which C cannot check:
  * - each pointer stands for as many entries as its length says, is aligned for its type and is not NULL, not even where the length is 0;
- * - `carried` and `left` are places of their own, and no buffer overlaps another, the sheet or such a place;
- * - nothing else writes to the sheet or touches the buffers while the function runs.
+ * - `carried` and `left` are places of their own, and no buffer overlaps another, the sheet, the numbers or such a place;
+ * - nothing else writes to the sheet or the numbers, or touches the buffers, while the function runs.
  *
  * No heap is taken and nothing is kept between calls, so threads may ask at once, each with buffers of its own.
  * The search calls itself for each mark that it adds, at most 32 at each of 8 individuals: leave it half a megabyte of stack.
@@ -32,14 +32,18 @@ extern "C" {
 
 /* The answer numbers. What an answer carries is put into *carried.
  *
- * Under 1 to 8 no buffer is touched. Under 10 to 15 all records and all mark bytes lent end as zero, and the model or list buffer
+ * Under 1 to 8 and 16 no buffer is touched. Under 10 to 15 all records and all mark bytes lent end as zero, and the model or list buffer
  * holds what is said here. */
 enum {
     /* `bargaindune_balance` only: there is no fault; *carried is 0, and *left holds what is left */
     BARGAINDUNE_LEFT = 0,
 
+    /* `bargaindune_write` only: carries the length of the sheet, whose bytes stand at the front of the buffer; those behind them stay as they were */
+    BARGAINDUNE_WRITTEN = 0,
+
     /* faults of the sheet, the first from its front; they carry the place: the index of the faulty number's first byte,
-     * the sheet's length if it has none, and under 6 the first spare byte */
+     * the sheet's length if it has none, and under 6 the first spare byte. `bargaindune_write` gives the number and the place that the bytes of its
+     * numbers would have got */
     BARGAINDUNE_CUT = 1,          /* the sheet ends inside or before a number */
     BARGAINDUNE_BADLY_FORMED = 2, /* a badly formed number */
     BARGAINDUNE_OVER_LIMIT = 3,   /* a count over its limit */
@@ -62,8 +66,11 @@ enum {
     BARGAINDUNE_OUT_OF_SPACE = 13, /* the records needed outnumber those lent; carries 0, and the model or list buffer ends as zeros */
 
     /* `bargaindune_causes` */
-    BARGAINDUNE_CAUSES = 14,   /* carries how many causes there are, which stand in the list buffer with zeros behind them */
-    BARGAINDUNE_LONG_LIST = 15 /* carries how many causes there are, more than the buffer has slots; it ends as zeros */
+    BARGAINDUNE_CAUSES = 14,    /* carries how many causes there are, which stand in the list buffer with zeros behind them */
+    BARGAINDUNE_LONG_LIST = 15, /* carries how many causes there are, more than the buffer has slots; it ends as zeros */
+
+    /* `bargaindune_write` */
+    BARGAINDUNE_SHORT_BUFFER = 16 /* the sheet is in order; carries the length wanted, more than the buffer has bytes */
 };
 
 /* Lengths that always suffice.
@@ -72,10 +79,23 @@ enum {
  * that may be lent, 13 is not given up to e = 9. Mark bytes: as many as records; more are fine.
  * Words: there are at most 8 individuals and 4,096 more elements, 31 edges asked for by each, and 16 role assertions.
  * 2 + n + 3 * (31 * n + 16) words with n = 8 + records suffice for fewer records. A model buffer of length 0 is told the words wanted.
- * Slots: one for each set of 12 rules is more than enough. */
+ * Slots: one for each set of 12 rules is more than enough.
+ * Bytes of a sheet: each number that is in order takes one. There are five counts, and at most three numbers for each of 32 lines, two for each of 12 rules
+ * and of 16 class assertions, and three for each of 16 role assertions. */
 #define BARGAINDUNE_MOST_RECORDS 4096
 #define BARGAINDUNE_MOST_WORDS 385826
 #define BARGAINDUNE_MOST_SLOTS 4096
+#define BARGAINDUNE_MOST_SHEET 205
+
+/* The sheet of these numbers, in bytes, each number in as many groups of seven bits as it needs. They stand in the order of a sheet: the count of lines,
+ * each line's kind and operands, the count of rules, .. (docs/FORMAT.md). Any numbers may be given, however many.
+ * Numbers that make no sheet get the answer that a reader would give to their bytes: 1 where they end too early, 2 at a number of 16,384 or more, which
+ * wants a third byte, 6 where some are left over, and 3 to 5 as they are. Only a sheet in order can find the buffer too short: 16 comes behind 1 to 6.
+ * Answers 0, 1 to 6, 16. */
+uint64_t bargaindune_write(
+    const uint16_t *numbers, size_t numbers_length,
+    uint8_t *out, size_t out_length,
+    uint64_t *carried);
 
 /* Is the sheet satisfiable? With its model, or the length that it wants.
  * Answers 1 to 7, 10 to 13. */

@@ -1,27 +1,70 @@
-/* The Friday port (docs/FRIDAY.md): why are dbg_tx and bus_out exempt from timing, what without the wildcard, and can the sheet be met at all? */
+/* The Friday port (docs/FRIDAY.md): its sheet is written from its numbers, and one with a slip is refused. Then: why are dbg_tx and bus_out exempt from
+ * timing, what without the wildcard, and can the sheet be met at all? */
 #include "bargaindune.h"
 
 #include <stdio.h>
 #include <stdlib.h>
+#include <string.h>
 
 /* The sheet has one some line and no only line, so that one record suffices. */
 enum { RECORDS = 1, SLOTS = 4, WORDS = 16, RULES = 4, EXEMPT = 2 };
 
+/* The kinds of lines that the sheet has. */
+enum { NAME = 2, SOME = 6 };
+
+static const uint16_t friday_numbers[] = {
+    5,          /* lines: */
+    NAME, 0,    /* 0, matches dbg_* */
+    NAME, 1,    /* 1, test-side */
+    NAME, 2,    /* 2, exempt */
+    SOME, 0, 1, /* 3, drives something test-side */
+    NAME, 3,    /* 4, boundary scan */
+    4,          /* rules: */
+    0, 1,       /* what matches dbg_* is test-side */
+    1, 2,       /* what is test-side is exempt */
+    3, 1,       /* what drives something test-side is test-side */
+    4, 2,       /* boundary scan is exempt */
+    2,          /* ports: dbg_tx, bus_out */
+    1, 0, 0,    /* dbg_tx matches dbg_* */
+    1, 0, 1, 0, /* bus_out drives dbg_tx */
+};
+
+/* What they have to come to in bytes, laid out by hand. */
 static const uint8_t friday[] = {
-    5, 2, 0, 2, 1, 2, 2, 6, 0, 1, 2, 3, /* lines: dbg_*, test-side, exempt, drives something test-side, boundary scan */
-    4, 0, 1, 1, 2, 3, 1, 4, 2,          /* rules */
-    2,                                  /* ports: dbg_tx, bus_out */
-    1, 0, 0,                            /* dbg_tx matches dbg_* */
-    1, 0, 1, 0,                         /* bus_out drives dbg_tx */
+    0x05, 0x02, 0x00, 0x02, 0x01, 0x02, 0x02, 0x06, 0x00, 0x01, 0x02, 0x03,
+    0x04, 0x00, 0x01, 0x01, 0x02, 0x03, 0x01, 0x04, 0x02,
+    0x02,
+    0x01, 0x00, 0x00,
+    0x01, 0x00, 0x01, 0x00,
 };
 
 /* The same without rule 0. */
-static const uint8_t no_wildcard[] = {
-    5, 2, 0, 2, 1, 2, 2, 6, 0, 1, 2, 3,
+static const uint16_t no_wildcard_numbers[] = {
+    5, NAME, 0, NAME, 1, NAME, 2, SOME, 0, 1, NAME, 3,
     3, 1, 2, 3, 1, 4, 2,
     2,
     1, 0, 0,
     1, 0, 1, 0,
+};
+
+/* And with a slip: rule 0 is struck out, but not counted out. Its last rule is then made of what should be the ports. */
+static const uint16_t miscounted_numbers[] = {
+    5, NAME, 0, NAME, 1, NAME, 2, SOME, 0, 1, NAME, 3,
+    4, 1, 2, 3, 1, 4, 2,
+    2,
+    1, 0, 0,
+    1, 0, 1, 0,
+};
+
+#define COUNT(numbers) (sizeof numbers / sizeof *numbers)
+
+static const char *const faults[] = {
+    [BARGAINDUNE_CUT] = "the numbers end too early",
+    [BARGAINDUNE_BADLY_FORMED] = "a number of 16,384 or more",
+    [BARGAINDUNE_OVER_LIMIT] = "a count over its limit",
+    [BARGAINDUNE_TOO_LARGE] = "a kind, name or role too large",
+    [BARGAINDUNE_NOT_THERE] = "a line or individual that may not be named there",
+    [BARGAINDUNE_LEFT_OVER] = "numbers left over",
 };
 
 static const char *const rules[RULES] = {
@@ -40,6 +83,32 @@ static void stop(uint64_t number, uint64_t carried)
 {
     fprintf(stderr, "unexpected answer %llu, carrying %llu\n", (unsigned long long)number, (unsigned long long)carried);
     exit(1);
+}
+
+/* Writes the sheet of these numbers, and hands back its length. */
+static size_t write_sheet(const uint16_t *numbers, size_t count, uint8_t sheet[BARGAINDUNE_MOST_SHEET])
+{
+    uint64_t carried, number;
+
+    number = bargaindune_write(numbers, count, sheet, BARGAINDUNE_MOST_SHEET, &carried);
+    if (number != BARGAINDUNE_WRITTEN)
+        stop(number, carried);
+    return (size_t)carried;
+}
+
+/* A buffer of no bytes is told the length wanted, or what is wrong. */
+static void judge_numbers(const uint16_t *numbers, size_t count)
+{
+    uint8_t nothing;
+    uint64_t carried, number;
+
+    number = bargaindune_write(numbers, count, &nothing, 0, &carried);
+    if (number == BARGAINDUNE_SHORT_BUFFER)
+        printf("they make a sheet of %llu bytes.\n", (unsigned long long)carried);
+    else if (number >= BARGAINDUNE_CUT && number <= BARGAINDUNE_LEFT_OVER)
+        printf("they make no sheet: %s, at byte %llu.\n", faults[number], (unsigned long long)carried);
+    else
+        stop(number, carried);
 }
 
 /* A sheet that leaves out the first rules numbers the others from 0 on. */
@@ -100,11 +169,26 @@ static void room_for(const uint8_t *sheet, size_t length)
 
 int main(void)
 {
-    why(friday, sizeof friday, 0, 0);
-    why(friday, sizeof friday, 0, 1);
+    uint8_t sheet[BARGAINDUNE_MOST_SHEET], without[BARGAINDUNE_MOST_SHEET];
+
+    printf("The numbers of the Friday port: ");
+    judge_numbers(friday_numbers, COUNT(friday_numbers));
+    printf("The same with rule 0 struck out but still counted: ");
+    judge_numbers(miscounted_numbers, COUNT(miscounted_numbers));
+
+    const size_t length = write_sheet(friday_numbers, COUNT(friday_numbers), sheet);
+    const size_t shorter = write_sheet(no_wildcard_numbers, COUNT(no_wildcard_numbers), without);
+    if (length != sizeof friday || memcmp(sheet, friday, length) != 0) {
+        fprintf(stderr, "not the sheet that was laid out by hand\n");
+        return 1;
+    }
+    printf("Written, it is the sheet that was laid out by hand.\n");
+
+    why(sheet, length, 0, 0);
+    why(sheet, length, 0, 1);
     printf("Without the wildcard:\n");
-    why(no_wildcard, sizeof no_wildcard, 1, 0);
-    meet(friday, sizeof friday);
-    room_for(friday, sizeof friday);
+    why(without, shorter, 1, 0);
+    meet(sheet, length);
+    room_for(sheet, length);
     return 0;
 }

@@ -6,7 +6,7 @@
  * - all buffers in one block with guard bytes around each;
  * - each buffer with its front or its end at a page that cannot be read or written, and guard bytes on the other side.
  * After each call nothing but the buffers may have changed, the buffers have to hold what docs/FORMAT.md says, and the three answers have
- * to agree. Refusals and the balance are compared with a reader of this file's own.
+ * to agree. Refusals and the balance are compared with a reader of this file's own, and what is written with a writer of its own.
  *
  * This program is built with the address sanitizer. The archive is not, since no compiler of C sees its source: what it does outside the
  * buffers shows in the guard bytes, or ends the program at a guard page.
@@ -60,16 +60,18 @@ static void fill(unsigned char *at, size_t bytes)
 
 /* ---- questions */
 
-enum { MOST_BYTES = 4096, MOST_LENGTH = 4600 };
+enum { MOST_BYTES = 4096, MOST_LENGTH = 4600, MOST_NUMBERS = 100000 };
 
-enum function { SATISFY, CAUSES, BALANCE, FUNCTIONS };
+enum function { SATISFY, CAUSES, BALANCE, WRITE, FUNCTIONS };
 
-static const char *const function_names[FUNCTIONS] = {"satisfy", "causes", "balance"};
+static const char *const function_names[FUNCTIONS] = {"satisfy", "causes", "balance", "write"};
 
+/* A writer is asked with numbers and no sheet, the others the other way round. */
 struct question {
     enum function function;
     uint8_t sheet[MOST_BYTES];
-    size_t sheet_length, records, marks, out;
+    uint16_t numbers[MOST_NUMBERS];
+    size_t sheet_length, numbers_length, records, marks, out;
     uint64_t port, class_line, room;
 };
 
@@ -80,11 +82,14 @@ static uint64_t seed, index_of_question;
 static void show_question(void)
 {
     fprintf(stderr, "FAILED: seed %" PRIu64 ", question %" PRIu64 "\n", seed, index_of_question);
-    fprintf(stderr, "%s, %zu records, %zu marks, %zu words or slots, ", function_names[q.function], q.records, q.marks, q.out);
-    fprintf(stderr, "port %" PRIu64 ", class %" PRIu64 ", room %" PRIu64 ", sheet of %zu bytes:\n", q.port, q.class_line, q.room, q.sheet_length);
+    fprintf(stderr, "%s, %zu records, %zu marks, %zu words, slots or bytes, ", function_names[q.function], q.records, q.marks, q.out);
+    fprintf(stderr, "port %" PRIu64 ", class %" PRIu64 ", room %" PRIu64 ", sheet of %zu bytes, %zu numbers:\n", q.port, q.class_line, q.room,
+        q.sheet_length, q.numbers_length);
     for (size_t i = 0; i < q.sheet_length; i++)
         fprintf(stderr, "%02x", q.sheet[i]);
-    fprintf(stderr, "\n");
+    for (size_t i = 0; i < q.numbers_length && i < 400; i++)
+        fprintf(stderr, "%s%u", i == 0 ? "" : " ", q.numbers[i]);
+    fprintf(stderr, "%s\n", q.numbers_length > 400 ? " .." : "");
 }
 
 static void expect(bool holds, const char *what)
@@ -96,20 +101,21 @@ static void expect(bool holds, const char *what)
     abort();
 }
 
-/* ---- a reader of its own */
+/* ---- a reader and a writer of its own */
 
 struct readout {
-    uint64_t number, place; /* of a fault; 0 if there is none */
+    const uint8_t *bytes;
+    size_t length, at;
+    uint64_t number, place; /* of a fault; 0 and the length if there is none */
     unsigned lines, rules, ports, splits, quantifiers;
-    size_t at;
 };
 
 static unsigned number(struct readout *r, unsigned limit, unsigned why)
 {
     if (r->number != 0)
         return 0;
-    const size_t left = q.sheet_length - r->at;
-    const uint8_t *const s = q.sheet + r->at;
+    const size_t left = r->length - r->at;
+    const uint8_t *const s = r->bytes + r->at;
     r->place = r->at;
     if (left == 0 || (s[0] >= 128 && left == 1)) {
         r->number = 1;
@@ -143,9 +149,9 @@ static void read_line(struct readout *r, unsigned own)
     r->quantifiers += kind >= 6;
 }
 
-static struct readout read_sheet(void)
+static struct readout read_sheet(const uint8_t *bytes, size_t length)
 {
-    struct readout r = {0};
+    struct readout r = {.bytes = bytes, .length = length};
     r.lines = number(&r, 33, 3);
     for (unsigned i = 0; i < r.lines; i++)
         read_line(&r, i);
@@ -167,9 +173,27 @@ static struct readout read_sheet(void)
     }
     if (r.number == 0) {
         r.place = r.at;
-        r.number = r.at < q.sheet_length ? 6 : 0;
+        r.number = r.at < r.length ? 6 : 0;
     }
     return r;
+}
+
+/* The numbers of the question, each in as many groups of seven bits as it needs: one, two from 128 on, three from 16,384 on. What a reader says of these
+ * bytes is what the writer has to say. */
+static uint8_t spelled[3 * MOST_NUMBERS];
+
+static struct readout read_numbers(void)
+{
+    size_t n = 0;
+    for (size_t i = 0; i < q.numbers_length; i++) {
+        const unsigned low = q.numbers[i] % 128, middle = q.numbers[i] / 128 % 128, high = q.numbers[i] / 16384;
+        spelled[n++] = (uint8_t)(low + (middle + high > 0 ? 128 : 0));
+        if (middle + high > 0)
+            spelled[n++] = (uint8_t)(middle + (high > 0 ? 128 : 0));
+        if (high > 0)
+            spelled[n++] = (uint8_t)high;
+    }
+    return read_sheet(spelled, n);
 }
 
 /* Sheets drawn, and those of them that were left out as too long. */
@@ -190,45 +214,62 @@ static void put(size_t byte)
         q.sheet[q.sheet_length++] = (uint8_t)byte;
 }
 
-/* A sheet in order. Long counts are rare. */
-static void write_sheet(void)
+/* In a sheet in order long counts are rare. A full sheet may take long to answer: all counts are likely, limits more so, and what is just over one is
+ * there as well, so that not every full sheet is in order. */
+static size_t choose_count(bool full, size_t limit, size_t rarely, size_t mostly)
 {
-    const size_t lines = once_in(8) ? below(33) : below(13);
-    const size_t splits = below(5), quantifiers = below(6);
+    if (full)
+        return once_in(4) ? limit : once_in(32) ? limit + 1 : below(limit + 1);
+    return once_in(8) ? below(rarely + 1) : below(mostly + 1);
+}
+
+static size_t choose_below(bool full, size_t limit, size_t mostly)
+{
+    if (full)
+        return once_in(256) ? limit : below(limit);
+    return once_in(8) ? below(limit) : below(mostly);
+}
+
+static void write_sheet(bool full)
+{
+    const size_t lines = choose_count(full, 32, 32, 12);
+    const size_t splits = full ? lines : below(5), quantifiers = full ? lines : below(6);
+    /* lines with two operands alone, for the longest sheets */
+    const bool wide = full && once_in(4);
     size_t split = 0, quantified = 0;
     put(lines);
     for (size_t i = 0; i < lines; i++) {
-        size_t kind = i == 0 ? below(3) : below(8);
+        size_t kind = i == 0 ? (wide ? 2 : below(3)) : wide ? 4 + below(4) : below(8);
         if (((kind == 4 || kind == 5) && split++ >= splits) || (kind >= 6 && quantified++ >= quantifiers))
             kind = once_in(2) ? 2 : 3;
         put(kind);
         if (kind == 2)
-            put(once_in(8) ? below(32) : below(4));
+            put(choose_below(full, 32, 4));
         if (kind >= 6)
-            put(once_in(8) ? below(8) : below(2));
+            put(choose_below(full, 8, 2));
         if (kind == 4 || kind == 5)
             put(below(i));
         if (kind >= 3)
             put(below(i));
     }
-    const size_t rules = lines == 0 ? 0 : once_in(8) ? below(8) : below(5);
+    const size_t rules = lines == 0 ? 0 : choose_count(full, 12, 7, 4);
     put(rules);
     for (size_t i = 0; i < rules; i++) {
         put(below(lines));
         put(below(lines));
     }
-    const size_t ports = once_in(8) ? below(9) : 1 + below(3);
+    const size_t ports = full ? choose_count(true, 8, 0, 0) : once_in(8) ? below(9) : 1 + below(3);
     put(ports);
-    const size_t classes = ports == 0 || lines == 0 ? 0 : once_in(8) ? below(17) : below(5);
+    const size_t classes = ports == 0 || lines == 0 ? 0 : choose_count(full, 16, 16, 4);
     put(classes);
     for (size_t i = 0; i < classes; i++) {
         put(below(ports));
         put(below(lines));
     }
-    const size_t roles = ports == 0 ? 0 : once_in(8) ? below(17) : below(4);
+    const size_t roles = ports == 0 ? 0 : choose_count(full, 16, 16, 3);
     put(roles);
     for (size_t i = 0; i < roles; i++) {
-        put(once_in(8) ? below(8) : below(2));
+        put(choose_below(full, 8, 2));
         put(below(ports));
         put(below(ports));
     }
@@ -285,13 +326,73 @@ static void choose_sheet(void)
         write_bytes();
         break;
     case 1:
-        write_sheet();
+        write_sheet(false);
         for (size_t i = 1 + below(3); i > 0; i--)
             damage();
         break;
     default:
-        write_sheet();
+        write_sheet(false);
     }
+}
+
+/* ---- numbers */
+
+static uint16_t any_number(void)
+{
+    const uint16_t edges[] = {0, 7, 8, 9, 12, 13, 16, 17, 31, 32, 33, 127, 128, 129, 16383, 16384, 16385, 32768, 65535};
+    return (uint16_t)(once_in(4) ? edges[below(19)] : once_in(4) ? any() : once_in(4) ? below(300) : below(10));
+}
+
+/* As for a sheet: one number changed, left out or put in, or the end cut off or grown, and rarely by as much as there is space for. */
+static void damage_numbers(void)
+{
+    const size_t n = q.numbers_length, at = below(n + 1), bytes = sizeof *q.numbers;
+    switch (below(5)) {
+    case 0:
+        if (at < n)
+            q.numbers[at] = any_number();
+        break;
+    case 1:
+        if (at < n) {
+            memmove(q.numbers + at, q.numbers + at + 1, (n - at - 1) * bytes);
+            q.numbers_length--;
+        }
+        break;
+    case 2:
+        if (n < MOST_NUMBERS) {
+            memmove(q.numbers + at + 1, q.numbers + at, (n - at) * bytes);
+            q.numbers[at] = any_number();
+            q.numbers_length++;
+        }
+        break;
+    case 3:
+        q.numbers_length = at;
+        break;
+    default:
+        for (size_t more = once_in(64) ? MOST_NUMBERS : 1 + below(3); more > 0 && q.numbers_length < MOST_NUMBERS; more--)
+            q.numbers[q.numbers_length++] = any_number();
+    }
+}
+
+/* Those of a sheet, of a damaged sheet, or any. */
+static void choose_numbers(void)
+{
+    q.sheet_length = q.numbers_length = 0;
+    if (once_in(4)) {
+        const bool small = once_in(2);
+        q.numbers_length = once_in(256) ? MOST_NUMBERS : once_in(2) ? below(400) : below(9);
+        for (size_t i = 0; i < q.numbers_length; i++)
+            q.numbers[i] = small ? (uint16_t)below(9) : any_number();
+        return;
+    }
+    /* each number of such a sheet has one byte */
+    write_sheet(once_in(2));
+    for (size_t i = 0; i < q.sheet_length; i++)
+        q.numbers[q.numbers_length++] = q.sheet[i];
+    q.sheet_length = 0;
+    if (once_in(2))
+        for (size_t i = 1 + below(3); i > 0; i--)
+            damage_numbers();
 }
 
 static size_t choose_length(void)
@@ -316,13 +417,26 @@ static uint64_t choose_number(unsigned limit)
     return once_in(16) ? any() : once_in(16) || limit == 0 ? limit : below(limit);
 }
 
+/* Mostly about as many bytes as are wanted. */
+static size_t choose_room(size_t wanted)
+{
+    const size_t about = wanted + below(5);
+    return once_in(4) || wanted > 300 ? choose_length() : once_in(4) ? below(wanted + 1) : about < 2 ? 0 : about - 2;
+}
+
 static struct readout choose_question(void)
 {
     struct readout r;
     q.function = (enum function)below(FUNCTIONS);
+    q.numbers_length = 0;
     for (;;) {
+        if (q.function == WRITE) {
+            choose_numbers();
+            r = read_numbers();
+            break;
+        }
         choose_sheet();
-        r = read_sheet();
+        r = read_sheet(q.sheet, q.sheet_length);
         drawn++;
         if (cheap(&r))
             break;
@@ -331,7 +445,7 @@ static struct readout choose_question(void)
     q.records = choose_length();
     /* mostly as many marks as records or more, so that 7 does not answer too often */
     q.marks = once_in(8) ? choose_length() : q.records + (once_in(2) ? 0 : below(100));
-    q.out = choose_length();
+    q.out = q.function == WRITE ? choose_room(r.length) : choose_length();
     q.port = choose_number(r.ports);
     q.class_line = choose_number(r.lines);
     q.room = once_in(16) ? any() : below(4200);
@@ -340,7 +454,7 @@ static struct readout choose_question(void)
 
 /* ---- buffers, and what surrounds them */
 
-enum part { SHEET, RECORDS, MARKS, OUT, CARRIED, LEFT, PARTS };
+enum part { SHEET, NUMBERS, RECORDS, MARKS, OUT, CARRIED, LEFT, PARTS };
 
 enum layout { EXACT, BLOCK, PAGES, LAYOUTS };
 
@@ -355,7 +469,8 @@ struct buffer {
     size_t bytes;
 };
 
-enum { GUARD = 64, ZONE = 40960, BLOCK_BYTES = PARTS * (ZONE + 2 * GUARD) };
+/* A zone has whole pages, and holds the longest buffer, of MOST_NUMBERS. */
+enum { GUARD = 64, ZONE = 262144, BLOCK_BYTES = PARTS * (ZONE + 2 * GUARD) };
 
 static struct zone zones[PARTS];
 static size_t zone_count;
@@ -392,9 +507,11 @@ static size_t width_of(enum part i)
     case MARKS:
         return q.marks;
     case OUT:
-        return (q.function == CAUSES ? sizeof(uint16_t) : sizeof(uint32_t)) * q.out;
+        return (q.function == WRITE ? sizeof(uint8_t) : q.function == CAUSES ? sizeof(uint16_t) : sizeof(uint32_t)) * q.out;
     case SHEET:
         return q.sheet_length;
+    case NUMBERS:
+        return sizeof(uint16_t) * q.numbers_length;
     default:
         return 8;
     }
@@ -439,6 +556,8 @@ static void lend(enum layout l)
         fill(zones[i].at, zones[i].bytes);
     if (q.sheet_length > 0)
         memcpy(buffers[SHEET].at, q.sheet, q.sheet_length);
+    if (q.numbers_length > 0)
+        memcpy(buffers[NUMBERS].at, q.numbers, sizeof(uint16_t) * q.numbers_length);
     for (size_t i = 0; i < zone_count; i++)
         memcpy(zones[i].was, zones[i].at, zones[i].bytes);
 }
@@ -451,11 +570,28 @@ static void take_back(enum layout l)
     }
 }
 
+static bool may_change(enum part i)
+{
+    switch (i) {
+    case RECORDS:
+    case MARKS:
+        return q.function == SATISFY || q.function == CAUSES;
+    case OUT:
+        return q.function != BALANCE;
+    case CARRIED:
+        return true;
+    case LEFT:
+        return q.function == BALANCE;
+    default:
+        return false;
+    }
+}
+
 /* What may be written is taken over into the copy; then the whole has to be the same. */
 static void expect_nothing_else_changed(void)
 {
-    for (size_t i = RECORDS; i < PARTS; i++)
-        if (q.function != BALANCE ? i != LEFT : i >= CARRIED)
+    for (size_t i = 0; i < PARTS; i++)
+        if (may_change((enum part)i))
             memcpy(buffers[i].was, buffers[i].at, buffers[i].bytes);
     for (size_t i = 0; i < zone_count; i++)
         expect(memcmp(zones[i].was, zones[i].at, zones[i].bytes) == 0, "something outside the buffers changed");
@@ -495,6 +631,8 @@ static struct answer ask(void)
         a.number = bargaindune_balance(sheet, q.sheet_length, q.room, carried, left);
         a.left = *left;
     }
+    if (q.function == WRITE)
+        a.number = bargaindune_write((const uint16_t *)buffers[NUMBERS].at, q.numbers_length, buffers[OUT].at, q.out, carried);
     a.carried = *carried;
     return a;
 }
@@ -503,7 +641,7 @@ static struct answer ask(void)
 static struct answer wanted_refusal(const struct readout *r)
 {
     const bool badly = q.function == BALANCE ? q.room > 4096 : q.records > 4096 || q.marks < q.records;
-    if (badly)
+    if (badly && q.function != WRITE)
         return (struct answer){.number = 7};
     if (r->number != 0)
         return (struct answer){.number = r->number, .carried = r->place};
@@ -542,6 +680,17 @@ static void expect_list(const struct readout *r, uint64_t sets)
     }
 }
 
+/* Numbers that make a sheet: its bytes and nothing else, or no byte. */
+static void expect_written(const struct readout *r, struct answer a)
+{
+    expect(r->length <= BARGAINDUNE_MOST_SHEET, "a sheet that is longer than any");
+    expect(a.number == (q.out < r->length ? BARGAINDUNE_SHORT_BUFFER : BARGAINDUNE_WRITTEN), "the sheet is in order, and fits or does not");
+    expect(a.carried == r->length, "the length of the sheet");
+    const size_t n = a.number == BARGAINDUNE_WRITTEN ? r->length : 0;
+    expect(memcmp(buffers[OUT].at, r->bytes, n) == 0, "the bytes of the sheet");
+    expect(memcmp(buffers[OUT].at + n, buffers[OUT].was + n, buffers[OUT].bytes - n) == 0, "bytes behind the sheet changed");
+}
+
 static void expect_answer(const struct readout *r, struct answer a)
 {
     const struct answer refusal = wanted_refusal(r);
@@ -549,6 +698,10 @@ static void expect_answer(const struct readout *r, struct answer a)
     if (refusal.number != 0) {
         expect(a.number == refusal.number && a.carried == refusal.carried && a.left == 0, "another refusal was wanted");
         expect(untouched(RECORDS) && untouched(MARKS) && untouched(OUT), "a refusal touched a buffer");
+        return;
+    }
+    if (q.function == WRITE) {
+        expect_written(r, a);
         return;
     }
     if (q.function == BALANCE) {
@@ -578,7 +731,9 @@ static void expect_answer(const struct readout *r, struct answer a)
 
 /* ---- the whole run */
 
-static uint64_t counts[FUNCTIONS][16];
+enum { ANSWERS = 17 };
+
+static uint64_t counts[FUNCTIONS][ANSWERS];
 
 static double seconds(void)
 {
@@ -610,6 +765,7 @@ int main(int argc, char **argv)
     const uint64_t first = argc > 3 ? argument("FIRST", argv[3], 0, UINT64_MAX) : 0;
     static unsigned char kept[4 * MOST_LENGTH];
     const double start = seconds();
+    size_t most_numbers = 0, longest_sheet = 0;
     double slowest = 0;
     uint64_t slowest_index = 0;
     __sanitizer_set_death_callback(show_question);
@@ -618,6 +774,10 @@ int main(int argc, char **argv)
         state = seed;
         state = any() + index_of_question;
         const struct readout r = choose_question();
+        if (q.numbers_length > most_numbers)
+            most_numbers = q.numbers_length;
+        if (q.function == WRITE && r.number == 0 && r.length > longest_sheet)
+            longest_sheet = r.length;
         struct answer before = {0};
         for (size_t l = EXACT; l < LAYOUTS; l++) {
             lend((enum layout)l);
@@ -630,7 +790,8 @@ int main(int argc, char **argv)
                 memcpy(kept, buffers[OUT].at, buffers[OUT].bytes);
             }
             expect(a.number == before.number && a.carried == before.carried && a.left == before.left, "the answer changed with what surrounds the buffers");
-            if (a.number >= 10)
+            /* a writer leaves what was there before, which differs */
+            if (a.number >= 10 && q.function != WRITE)
                 expect(memcmp(kept, buffers[OUT].at, buffers[OUT].bytes) == 0, "the result changed with what surrounds the buffers");
             expect_nothing_else_changed();
             take_back((enum layout)l);
@@ -643,7 +804,7 @@ int main(int argc, char **argv)
     }
     uint64_t calls = 0;
     for (size_t f = 0; f < FUNCTIONS; f++)
-        for (size_t n = 0; n < 16; n++)
+        for (size_t n = 0; n < ANSWERS; n++)
             if (counts[f][n] > 0) {
                 printf("%-8s %2zu %10" PRIu64 "\n", function_names[f], n, counts[f][n]);
                 calls += counts[f][n];
@@ -652,6 +813,7 @@ int main(int argc, char **argv)
         fprintf(stderr, "fuzz: nothing was asked\n");
         return 1;
     }
+    printf("to be written: up to %zu numbers, sheets of up to %zu bytes\n", most_numbers, longest_sheet);
     printf("left out as too long: %" PRIu64 " of %" PRIu64 " sheets drawn\n", left_out, drawn);
     printf("seed %" PRIu64 ", questions %" PRIu64 " to %" PRIu64 ", %" PRIu64 " calls in %.0f s, the slowest %.1f ms (question %" PRIu64 "): nothing outside the buffers changed\n",
         seed, first, index_of_question - 1, calls, seconds() - start, 1e3 * slowest, slowest_index);

@@ -1,15 +1,18 @@
 //! Questions and answers as lines of text: `sat HEX ROOM MARKS WORDS`, `causes HEX PORT CLASS ROOM MARKS SLOTS`,
-//! `balance HEX ROOM`. Between words stand blanks, tabs and carriage returns. A line without words, or whose first
-//! word starts with #, is no question. What is beyond the desk's buffers or not understood is answered `what?`.
+//! `balance HEX ROOM`, `write LENGTH N N ..`. Between words stand blanks, tabs and carriage returns. A line without
+//! words, or whose first word starts with #, is no question. What is beyond the desk's buffers or not understood is
+//! answered `what?`.
 
 use crate::engine::{Answer, Engine};
 use crate::sheet::balance;
+use crate::write::write;
 
 pub const MOST_ROOM: u64 = 5_000;
 pub const MOST_MARKS: u64 = 8_192;
 pub const MOST_WORDS: u64 = 65_536;
 pub const MOST_SLOTS: u64 = 4_096;
 pub const MOST_BYTES: usize = 4_096;
+pub const MOST_LENGTH: u64 = 2_048;
 
 pub struct Desk {
     engine: Engine,
@@ -46,6 +49,9 @@ impl Desk {
 
     /// Answers the question, or gives None before anything was put out.
     fn understood<'a>(&mut self, verb: &[u8], words: impl Iterator<Item = &'a [u8]>, out: &mut Vec<u8>) -> Option<()> {
+        if verb == b"write" {
+            return put_written(words, out);
+        }
         let mut parts = [&b""[..]; 6];
         let mut count = 0;
         for word in words {
@@ -148,6 +154,22 @@ fn put_answer(answer: Answer, buffer: impl Iterator<Item = u64>, out: &mut Vec<u
         }
         put_number(word, out);
     }
+}
+
+/// The buffer's length, then the numbers of a form in the sheet's order. The answer 0 shows the bytes written.
+fn put_written<'a>(mut words: impl Iterator<Item = &'a [u8]>, out: &mut Vec<u8>) -> Option<()> {
+    let length = number(words.next()?, MOST_LENGTH)? as usize;
+    let numbers = words.map(|word| number(word, u16::MAX as u64).map(|number| number as u16));
+    let (number, value, bytes) = write(&numbers.collect::<Option<Vec<u16>>>()?, length);
+    put_pair(Answer { number, value }, out);
+    out.extend_from_slice(b" : ");
+    if number != 0 {
+        out.extend_from_slice(b"untouched");
+    }
+    for byte in bytes {
+        out.extend([byte >> 4, byte & 15].map(|digit| b"0123456789abcdef"[digit as usize]));
+    }
+    Some(())
 }
 
 fn put_pair(answer: Answer, out: &mut Vec<u8>) {

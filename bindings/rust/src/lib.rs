@@ -3,20 +3,30 @@
 //! The answers come from a proved engine, linked as `libdesk.a`. The repository's docs/FORMAT.md says what a sheet, a model and a
 //! cause list are, byte for byte, and docs/PROMISES.md what is proved of the answers.
 //!
-//! [`satisfy`], [`causes`] and [`balance`] take buffers from the caller, of any length, and allocate nothing. [`Desk`] owns buffers
-//! that suffice. A call takes up to half a megabyte of stack and keeps nothing, so threads may ask at once.
-//! Every call ends, but some not in a lifetime: see [time](#time).
+//! A [`Sheet`] is built line by line, rule by rule and port by port. [`write()`], [`satisfy`], [`causes`] and [`balance`] take buffers from the
+//! caller, of any length, and allocate nothing. [`Desk`] owns buffers that suffice. A call takes up to half a megabyte of stack and keeps nothing,
+//! so threads may ask at once. Every call ends, but some not in a lifetime: see [time](#time).
 //!
 //! ```
-//! use bargaindune::{Desk, Listed, Verdict};
+//! use bargaindune::{Desk, Listed, Sheet, Verdict};
 //!
-//! // names 0, 1, 2; rules 0 ⊑ 1, 1 ⊑ 2, 0 ⊑ 2; port 0 is in line 0
-//! let sheet = [3, 2, 0, 2, 1, 2, 2, 3, 0, 1, 1, 2, 0, 2, 1, 1, 0, 0, 0];
+//! // three names, each in the next, and the first in the last as well; the port is in the first
+//! let mut sheet = Sheet::new();
+//! let (debug, test, exempt) = (sheet.name(0), sheet.name(1), sheet.name(2));
+//! sheet.rule(debug, test);
+//! sheet.rule(test, exempt);
+//! sheet.rule(debug, exempt);
+//! let port = sheet.port();
+//! sheet.is_in(port, debug);
+//! let bytes = sheet.bytes()?;
+//!
 //! let mut desk = Desk::new();
-//! // rules 0 and 1 together force the port into line 2, and so does rule 2 alone
-//! assert_eq!(desk.causes(&sheet, 0, 2), Ok(Listed::Causes(&[0b011, 0b100])));
+//! // rules 0 and 1 together force the port to be exempt, and so does rule 2 alone
+//! let causes = desk.causes(&bytes, port.number(), exempt.number())?;
+//! assert_eq!(causes, Listed::Causes(&[0b011, 0b100]));
 //! // one element, in which the names 0, 1 and 2 are true, and no edge
-//! assert_eq!(desk.satisfy(&sheet), Ok(Verdict::Model(&[1, 0b111, 0])));
+//! assert_eq!(desk.satisfy(&bytes)?, Verdict::Model(&[1, 0b111, 0]));
+//! # Ok::<(), Box<dyn std::error::Error>>(())
 //! ```
 //!
 //! # Time
@@ -60,6 +70,10 @@
 
 use std::fmt;
 
+mod sheet;
+
+pub use sheet::{Fault, Item, Line, Port, Rule, Sheet};
+
 /// The most records that may be lent: with more the answer is [`Reason::LentBadly`].
 ///
 /// A sheet with e some and only lines needs at most e·2^(e-1), so this many suffice up to e = 9. [`balance`] counts them.
@@ -87,6 +101,14 @@ pub const MOST_WORDS: usize = 385_826;
 /// assert_eq!(bargaindune::MOST_SLOTS, 1 << 12);
 /// ```
 pub const MOST_SLOTS: usize = 4096;
+
+/// Bytes that suffice for every sheet: five counts, and at most three numbers for each of 32 lines, two for each of 12 rules and of 16 class
+/// assertions, and three for each of 16 role assertions. A number that is in order takes one byte.
+///
+/// ```
+/// assert_eq!(bargaindune::MOST_SHEET, 5 + 3 * 32 + 2 * 12 + 2 * 16 + 3 * 16);
+/// ```
+pub const MOST_SHEET: usize = 205;
 
 /// Why the desk refuses, in the order of the numbers 1 to 8.
 ///
@@ -274,8 +296,72 @@ impl Answer {
     }
 }
 
+/// The answers of [`write()`], each with what it carries.
+///
+/// The buffer is touched under [`Written::Sheet`] alone.
+///
+/// ```
+/// use bargaindune::{write, Written};
+///
+/// // an empty sheet: no lines, rules, ports, class assertions, role assertions
+/// let mut out = [9; 7];
+/// let answer = write(&[0, 0, 0, 0, 0], &mut out);
+/// assert_eq!(answer, Written::Sheet { bytes: 5 });
+/// assert_eq!(out, [0, 0, 0, 0, 0, 9, 9]);
+/// assert_eq!((answer.number(), answer.carries()), (0, 5));
+/// ```
+#[derive(Clone, Copy, Debug, PartialEq, Eq, Hash)]
+pub enum Written {
+    /// 0: the sheet is written at the front of the buffer, and the bytes behind it are as they were.
+    Sheet {
+        /// How many bytes of the buffer it takes.
+        bytes: usize,
+    },
+    /// 1 to 6: the numbers make no sheet. Reason and place are those that a reader of their bytes would give.
+    Refused(Refusal),
+    /// 16: the numbers make a sheet that is longer than the buffer.
+    ShortBuffer {
+        /// How many bytes it wants.
+        bytes: usize,
+    },
+}
+
+impl Written {
+    /// The number of the answer: 0, 1 to 6, or 16.
+    ///
+    /// ```
+    /// assert_eq!(bargaindune::Written::ShortBuffer { bytes: 5 }.number(), 16);
+    /// ```
+    pub fn number(self) -> u64 {
+        match self {
+            Written::Sheet { .. } => 0,
+            Written::Refused(refusal) => refusal.reason.number(),
+            Written::ShortBuffer { .. } => 16,
+        }
+    }
+
+    /// What it carries: a length or a place.
+    ///
+    /// ```
+    /// assert_eq!(bargaindune::Written::ShortBuffer { bytes: 5 }.carries(), 5);
+    /// ```
+    pub fn carries(self) -> usize {
+        match self {
+            Written::Sheet { bytes } | Written::ShortBuffer { bytes } => bytes,
+            Written::Refused(refusal) => refusal.place,
+        }
+    }
+}
+
 mod exported {
     extern "C" {
+        pub fn bargaindune_write(
+            numbers: *const u16,
+            numbers_length: usize,
+            out: *mut u8,
+            out_length: usize,
+            carried: *mut u64,
+        ) -> u64;
         pub fn bargaindune_satisfy(
             sheet: *const u8,
             sheet_length: usize,
@@ -330,6 +416,48 @@ fn refusal(number: u64, carried: u64) -> Refusal {
     }
 }
 
+/// Writes the sheet of these numbers, each in as many groups of seven bits as it needs. They stand in the order of a sheet: the count of lines,
+/// each line's kind and operands, the count of rules, and so on; [`Sheet::numbers`] lays them out.
+///
+/// Any numbers may be given, however many. Those that make no sheet are refused as a reader would refuse their bytes: [`Reason::Cut`] where they end
+/// too early, [`Reason::BadlyFormed`] at a number of 16,384 or more, which wants a third byte, [`Reason::LeftOver`] where some are left over.
+/// That is tested before the length of the buffer.
+///
+/// ```
+/// use bargaindune::{write, Reason, Refusal, Written};
+///
+/// // one line, which is top; no rule; one port, which is in line 0; no role assertion
+/// let numbers = [1, 0, 0, 1, 1, 0, 0, 0];
+/// let mut out = [9; 9];
+/// assert_eq!(write(&numbers, &mut out), Written::Sheet { bytes: 8 });
+/// assert_eq!(out, [1, 0, 0, 1, 1, 0, 0, 0, 9]);
+/// assert_eq!(write(&numbers, &mut []), Written::ShortBuffer { bytes: 8 });
+/// // the port is in line 1, which is not there
+/// let refusal = Refusal { reason: Reason::NotThere, place: 6 };
+/// assert_eq!(write(&[1, 0, 0, 1, 1, 0, 1, 0], &mut []), Written::Refused(refusal));
+/// ```
+pub fn write(numbers: &[u16], out: &mut [u8]) -> Written {
+    let room = out.len();
+    let mut carried = 0;
+    // SAFETY: a reference to a slice points to as many entries as its length says, aligned and not null, and mutable ones overlap nothing.
+    let number = unsafe {
+        exported::bargaindune_write(
+            numbers.as_ptr(),
+            numbers.len(),
+            out.as_mut_ptr(),
+            out.len(),
+            &mut carried,
+        )
+    };
+    let bytes = as_length(carried);
+    match number {
+        0 if bytes <= room => Written::Sheet { bytes },
+        1..=6 => Written::Refused(refusal(number, carried)),
+        16 if room < bytes => Written::ShortBuffer { bytes },
+        _ => strange(number, carried),
+    }
+}
+
 /// Is the sheet satisfiable? With its model, or the length that it wants.
 ///
 /// Any lengths may be lent; over 4,096 records, or fewer marks than records, are refused with [`Reason::LentBadly`]. The answer is never
@@ -350,7 +478,7 @@ fn refusal(number: u64, carried: u64) -> Refusal {
 pub fn satisfy(sheet: &[u8], records: &mut [u64], marks: &mut [u8], model: &mut [u32]) -> Answer {
     let room = model.len();
     let mut carried = 0;
-    // SAFETY: a reference to a slice points to as many entries as its length says, aligned and not null, and mutable ones overlap nothing.
+    // SAFETY: as in `write`.
     let number = unsafe {
         exported::bargaindune_satisfy(
             sheet.as_ptr(),
@@ -402,7 +530,7 @@ pub fn causes(
 ) -> Answer {
     let slots = list.len();
     let mut carried = 0;
-    // SAFETY: as in `satisfy`.
+    // SAFETY: as in `write`.
     let number = unsafe {
         exported::bargaindune_causes(
             sheet.as_ptr(),
@@ -442,7 +570,7 @@ pub fn causes(
 pub fn balance(sheet: &[u8], room: u64) -> Result<i64, Refusal> {
     let mut carried = 0;
     let mut left = 0;
-    // SAFETY: as in `satisfy`.
+    // SAFETY: as in `write`.
     let number = unsafe {
         exported::bargaindune_balance(sheet.as_ptr(), sheet.len(), room, &mut carried, &mut left)
     };

@@ -1,6 +1,7 @@
-//! `generate N SEED [--count]` prints N questions for the desk (see desk.rs), the same for the same seed: all
-//! three kinds, all answer numbers of document 01's table, with rooms and buffers just too small, exact and
-//! larger. `--count` tells on standard error how often the second engine gives each answer.
+//! `generate N SEED [write] [--count]` prints N questions for the desk (see desk.rs), the same for the same seed: the
+//! three kinds of document 01, all answer numbers of its table, with rooms and buffers just too small, exact and
+//! larger. With `write`, questions to the writer instead. `--count` tells on standard error how often the second
+//! engine gives each answer.
 //!
 //! Most questions aim at one answer number; the engine itself says what a sheet needs. Sheets whose search goes
 //! beyond a budget of steps are thrown away, so that every question stays cheap. How many that were of how many
@@ -9,6 +10,7 @@
 use second::desk::Desk;
 use second::engine::{Engine, Need};
 use second::form::{self, Sort};
+use second::lists;
 use second::random::Random;
 use second::sheet::{read, Sheet, SOME};
 use second::verdict::Halt;
@@ -79,31 +81,33 @@ struct Query {
 
 fn main() -> io::Result<()> {
     let mut count = false;
+    let mut ask: fn(&mut Generator) -> String = Generator::question;
     let mut numbers = Vec::new();
     for word in std::env::args().skip(1) {
         match word.parse::<u64>() {
             Ok(number) => numbers.push(number),
             Err(_) if word == "--count" => count = true,
+            Err(_) if word == "write" => ask = Generator::write_question,
             Err(_) => return usage(),
         }
     }
     let [many, seed] = numbers[..] else {
         return usage();
     };
-    generate(many, seed, count)
+    generate(many, seed, ask, count)
 }
 
 fn usage() -> io::Result<()> {
-    eprintln!("generate N SEED [--count]");
+    eprintln!("generate N SEED [write] [--count]");
     std::process::exit(2)
 }
 
-fn generate(many: u64, seed: u64, count: bool) -> io::Result<()> {
+fn generate(many: u64, seed: u64, ask: fn(&mut Generator) -> String, count: bool) -> io::Result<()> {
     let mut generator = Generator { random: Random(seed), engine: Engine::new(), searched: 0, left_out: 0 };
     let mut output = BufWriter::new(io::stdout().lock());
     let mut counter = Counter { desk: Desk::new(), counts: BTreeMap::new() };
     for _ in 0..many {
-        let question = generator.question();
+        let question = ask(&mut generator);
         if count {
             counter.take(&question);
         }
@@ -114,7 +118,9 @@ fn generate(many: u64, seed: u64, count: bool) -> io::Result<()> {
         eprintln!("{name:<14} {number:>6}");
     }
     let Generator { searched, left_out, .. } = generator;
-    eprintln!("left out as too long (over {BUDGET} steps): {left_out} of {searched} searched");
+    if searched > 0 {
+        eprintln!("left out as too long (over {BUDGET} steps): {left_out} of {searched} searched");
+    }
     Ok(())
 }
 
@@ -484,6 +490,26 @@ impl Generator {
             }
             _ => true,
         }
+    }
+
+    /// A form for the writer, in a buffer of no length, one too short, exact, or longer; now and then no question.
+    fn write_question(&mut self) -> String {
+        let list = lists::any_list(&mut self.random);
+        let wanted = list.len();
+        let length = match self.random.below(10) {
+            0 => "0".to_string(),
+            1..=2 => wanted.saturating_sub(1).to_string(),
+            3..=6 => wanted.to_string(),
+            7 => (wanted + 1).to_string(),
+            8 => self.random.pick(&[5, 255, 256, 2047, 2048]).to_string(),
+            _ if self.random.chance(80) => self.random.below(wanted as u64 + 12).to_string(),
+            _ => self
+                .random
+                .pick(&["2049", "18446744073709551616", "-1", "x", "4 65536", "9 0 0 0 0 0x0", ""])
+                .to_string(),
+        };
+        let numbers: Vec<String> = list.iter().map(u16::to_string).collect();
+        format!("write {length} {}", numbers.join(" "))
     }
 
     /// Beyond the desk's buffers, or a word too few or too many.
