@@ -1,4 +1,4 @@
-//! The cause list (document 01, "The cause list"; RULINGS 22 to 24).
+//! The cause list (document 01, "The cause list").
 
 use crate::label::Label;
 use crate::search::{Joints, Meter, Plan};

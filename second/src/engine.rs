@@ -1,4 +1,4 @@
-//! The answers with their numbers and buffers (document 01, "What the desk replies"; RULINGS 6 to 9, 19, 23).
+//! The answers with their numbers and buffers (document 01, "What the desk replies").
 
 use crate::causes::{causes, Causes};
 use crate::model;

@@ -1,4 +1,4 @@
-//! The model that is written (document 01, "The model that is written"; RULINGS 20, 21).
+//! The model that is written (document 01, "The model that is written").
 
 use crate::label::Label;
 use crate::search::{Joint, Plan};

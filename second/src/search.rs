@@ -1,5 +1,5 @@
 //! The steps, the walk to the settled labels of one seed, the joint walk of the individuals, and the seeds a
-//! settled label asks for (document 01, "Labels and the order of the rules"; RULINGS 10 to 16).
+//! settled label asks for (document 01, "Labels and the order of the rules").
 
 use crate::label::{bits, Label};
 use crate::sheet::{Sheet, AND, BOTTOM, NAME, NOT, ONLY, OR, SOME, TOP};

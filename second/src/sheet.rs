@@ -1,5 +1,4 @@
-//! The reader of sheets (document 01, "How a sheet is laid out" and "What the desk replies", answers 1 to 6;
-//! RULINGS 1 to 5, 8).
+//! The reader of sheets (document 01, "How a sheet is laid out" and "What the desk replies", answers 1 to 6).
 
 pub const TOP: u8 = 0;
 pub const BOTTOM: u8 = 1;

@@ -1,6 +1,6 @@
 //! Records, closing them under expansions, striking out unsatisfiable seeds, and the search for the first
 //! joint label whose seeds are all satisfiable (document 01, "Labels and the order of the rules", last
-//! paragraphs; RULINGS 14, 17 to 19).
+//! paragraphs).
 
 use crate::label::Label;
 use crate::search::{Asked, Expansions, Joint, Joints, Meter, Plan, TooLong};

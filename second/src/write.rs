@@ -1,4 +1,4 @@
-//! The writer of sheets (document 02, request 01; RULINGS 1 to 3 on document 02): the numbers of a form, in the sheet's
+//! The writer of sheets (document 02, request 01): the numbers of a form, in the sheet's
 //! order, to bytes. It judges the numbers themselves and reads no bytes, so that it and the reader check each other.
 
 use crate::sheet::Refusal;

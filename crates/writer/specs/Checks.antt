@@ -6,7 +6,7 @@ use mathlib.Core.Bool.{true, false, cond}
 use mathlib.Core.List.{List, [], _∷_, _++_}
 use lib.ListN.{length}
 use lib.Dec.{ltb, leb}
-use Rattle.alc.specs.Sheet.{mostLines, nameCount, roleCount, mostRules, mostIndividuals, mostClasses, mostRoles}
+use Rattle.alc.specs.Sheet.{mostLines, nameCount, roleCount, mostIndividuals}
 use Rattle.alc.specs.Sheet as theory
 use Rattle.alc.specs.Bytes.{Read, refused, taken}
 use Rattle.alc.specs.Writing.{groups}
@@ -15,6 +15,7 @@ use Rattle.sheet.specs.declared.Kind.the-variants.{Lines, Rules, Classes, Roles
 use Rattle.sheet.specs.declared.Section.{Section}
 use Rattle.sheet.specs.declared.Sheet.{Sheet}
 use Rattle.sheet.specs.Form.{Triple, triples, sheetOf}
+use Rattle.reader.specs.Parts.{mostOf}
 
 -- a number, what it has to be below, and the answer where it is not
 pub record Check : Type 0 where
@@ -48,12 +49,6 @@ entryChecks Roles n k own t = check (t .first) roleCount 4 ∷ check (t .second)
 abbrev pub entriesChecks : (ℕ → Triple → List Check) → ℕ → List Triple → List Check
 entriesChecks f i [] = []
 entriesChecks f i (t ∷ ts) = f i t ++ entriesChecks f (suc i) ts
-
-abbrev pub mostOf : Kind → ℕ
-mostOf Lines = mostLines
-mostOf Rules = mostRules
-mostOf Classes = mostClasses
-mostOf Roles = mostRoles
 
 -- a section, and what stands behind it
 unfoldable pub sectionChecks : Kind → ℕ → ℕ → Section → List Check → List Check

@@ -22,8 +22,10 @@ use Rattle.sheet.specs.declared.Kind.the-variants.{Lines, Rules, Classes, Roles
 use Rattle.sheet.specs.declared.Section.{Section}
 use Rattle.sheet.specs.declared.Sheet as form
 use Rattle.sheet.specs.Form.{operandCount, Triple, triples, entryNumbers, sectionNumbers, numbersOf, sheetOf, lineFrom, lineOf, ruleOf, classOf, roleOf}
+use Rattle.reader.specs.Parts.{mostOf}
+use Rattle.reader.specs.Reading.{then-then}
 use Rattle.reader.specs.Theorems.{entry-count}
-use Rattle.writer.specs.Checks.{Check, check, operandChecks, entryChecks, entriesChecks, mostOf, sectionChecks, formChecks, judged, firstFault}
+use Rattle.writer.specs.Checks.{Check, check, operandChecks, entryChecks, entriesChecks, sectionChecks, formChecks, judged, firstFault}
 use Rattle.writer.specs.Checks.{formVerdict}
 
 -- ---- a number where its bytes stand
@@ -110,11 +112,6 @@ module _ (bs : List ℕ) (p : ℕ) where
   behind-here x ys e = sym (drop-drop (length (groups x)) p bs) ∙ ap (drop (length (groups x))) e ∙ drop-append-seam (groups x) ys
 
 -- ---- reading on: what is said behind a number that keeps its limit
-module _ {A B C : Type 0} where
-  then-then : (r : Read A) (f : A → ℕ → Read B) (g : B → ℕ → Read C) → then (then r f) g ≡ then r (λ a q. then (f a q) g)
-  then-then (refused n p) f g = refl
-  then-then (taken a q) f g = refl
-
 -- no section may have more entries than a form holds
 most-fits : (kind : Kind) → mostOf kind ≤ mostLines
 most-fits Lines = omega arith
