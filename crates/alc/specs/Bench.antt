@@ -10,7 +10,7 @@ use Rattle.alc.specs.Settle.{next, settle, moves}
 use Rattle.alc.specs.Seeds.{seedOf, asks, expansions, successors, quantified, bound, survivors, seedSurvives, fine}
 use Rattle.alc.specs.Judge.{start, settledJoints, firstFine, recordsNeeded}
 use Rattle.alc.specs.Model.{chosen, modelSeeds, labelAt, leads, asserted, edgeAt, modelEdges, named, modelWords, satisfyAnswer}
-use Rattle.alc.specs.Causes.{forces, noSubsetForces, listed, causesAnswer}
+use Rattle.alc.specs.Causes.{forces, noSubsetForces, listed, contradictory, slotOf, slots, lacksRoom, causesAnswer}
 use Rattle.alc.specs.Replies.{Reply, satisfyReply, causesReply}
 
 -- how much is lent: records, mark bytes, and words or slots
@@ -61,7 +61,8 @@ ends bs q n v o = record {
 unfoldable pub computing : Unit {0}
 unfolding numberAt belowAt operandsAt lineAt ruleAt classAt roleAt sectionsAt readSheet bit put clashes clashesAt pushed next settle moves seedOf asks
     expansions successors quantified bound survivors seedSurvives fine start settledJoints firstFine recordsNeeded chosen modelSeeds labelAt leads
-    asserted edgeAt modelEdges named modelWords satisfyAnswer forces noSubsetForces listed causesAnswer satisfyReply causesReply
+    asserted edgeAt modelEdges named modelWords satisfyAnswer forces noSubsetForces listed contradictory slotOf slots lacksRoom causesAnswer
+    satisfyReply causesReply
 computing = tt
 
 unfoldable pub P1 : List ℕ
@@ -129,7 +130,7 @@ table =
     ∷ ends P10 (caused 0 2 (lending 0 2)) 14 1 (0 ∷ 0 ∷ [])
     ∷ ends P11 (judged (lending 1 1)) 12 0 (0 ∷ [])
     ∷ ends P11 (judged (lending 0 1)) 13 0 (0 ∷ [])
-    ∷ ends P11 (caused 0 3 (lending 1 2)) 14 1 (3 ∷ 0 ∷ [])
+    ∷ ends P11 (caused 0 3 (lending 1 2)) 14 1 (32771 ∷ 0 ∷ [])
     ∷ []
 
 pub bench : answers table ≡ expectations table

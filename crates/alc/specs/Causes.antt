@@ -1,6 +1,6 @@
 -- The cause list: sets of rules by number, which of them force, and which are smallest.
--- Document 01, "The cause list" and answers 13 and 14; demand 3. Definitions only.
-use Prim.Native.Nat.{ℕ, suc, _^_, _<_}
+-- Document 01, "The cause list" and answers 13 and 14; demand 3; document 02, request 02: the marks. Definitions only.
+use Prim.Native.Nat.{ℕ, suc, _+_, _%_, _^_, _<_}
 use mathlib.Core.Bool.{Bool, true, false, not as flip, _&&_, _||_, cond}
 use mathlib.Core.Path.{_≡_}
 use mathlib.Core.List.{List, [], _∷_, _++_, map}
@@ -65,11 +65,38 @@ noSubsetForces s flags n = all (λ m. flip (within (length (s .rules)) m n && fl
 unfoldable pub listed : Sheet → ℕ → ℕ → List ℕ
 listed s port class = let flags = forcing s port class in filter (λ n. noSubsetForces s flags n && getD flags n false) (ruleSets s)
 
--- "Answer 13 is given exactly when some set, none of whose proper subsets forces, needs more records than lent"
+-- ---- "each listed set is marked as catching (some finite interpretation meets it and the assertions) or as contradictory (none does)"
+unfoldable pub contradictory : Sheet → Bool
+contradictory s = isNothing (firstFine s [])
+
+-- "The mark is the slot's top bit, set for contradictory"
+abbrev pub topBit : ℕ
+topBit = 32768
+
+unfoldable pub slotOf : Sheet → ℕ → ℕ
+slotOf s n = cond (contradictory (withRules s n)) (n + topBit) n
+
+-- the set of rules in a slot
+abbrev pub rulesOf : ℕ → ℕ
+rulesOf x = x % topBit
+
+-- "order stays by rule number, the mark ignored"
+unfoldable pub slots : Sheet → ℕ → ℕ → List ℕ
+slots s port class = map (slotOf s) (listed s port class)
+
+-- the set n, judged from the entries xs, needs more records than lent
+abbrev pub needsMore : Sheet → ℕ → ℕ → List Entry → Bool
+needsMore s room n xs = ltb room (length (recordsNeeded (withRules s n) xs))
+
+-- "some set, none of whose proper subsets forces, needs more records than lent"; "13 is now also given when judging a listed set without class fails
+-- needs more records than lent"
+unfoldable pub lacksRoom : Sheet → ℕ → ℕ → ℕ → List Bool → ℕ → Bool
+lacksRoom s port class room flags n = noSubsetForces s flags n && (needsMore s room n (denial port class) || getD flags n false && needsMore s room n [])
+
 unfoldable pub causesAnswer : Sheet → ℕ → ℕ → ℕ → Finding
 causesAnswer s port class room =
     let flags = forcing s port class in
-    elim (any (λ n. noSubsetForces s flags n && ltb room (length (recordsNeeded (withRules s n) (denial port class)))) (ruleSets s)) [
+    elim (any (lacksRoom s port class room flags) (ruleSets s)) [
       | true ↦ record { number = 13; out = [] }
-      | false ↦ record { number = 14; out = listed s port class }
+      | false ↦ record { number = 14; out = slots s port class }
     ]

@@ -4,23 +4,23 @@
 -- What these words still rest on: `wellFormed`, `inLimits` and `bytesOf` (which bytes are a sheet); `readSheet`, which alone tells 3, 4 and 5 apart;
 -- `meets`, `truth` and `Forces` (Meaning); `decoded` and `Shaped` (Model); `withRules` and `within` (Causes); `bound` (Seeds); and for 13 `settledJoints`,
 -- `expansions` and `asks`, document 01's steps in their order. Which of the models is written, `exact` alone says.
-use Prim.Native.Nat.{ℕ, suc, _+_, _^_, _≤_, _<_}
+use Prim.Native.Nat.{ℕ, suc, _+_, _*_, _^_, _≤_, _<_}
 use mathlib.Core.Bool.{true}
 use mathlib.Core.Path.{_≡_}
 use mathlib.Core.Logic.{_↔_, _⊎_}
-use mathlib.Core.List.{List, [], _∷_, _++_}
+use mathlib.Core.List.{List, [], _∷_, _++_, map}
 use lib.ListN.{length, getD, take, drop, replicate}
 use lib.IntN.{ℤ, pos, _+ℤ_}
 use Rattle.alc.specs.Lists.{_∈_, Ascending, Distinct}
 use Rattle.alc.specs.Sheet.{Sheet, count, wellFormed, inLimits}
 use Rattle.alc.specs.Bytes.{refused, readSheet, bytesOf}
-use Rattle.alc.specs.Meaning.{SheetSatisfiable}
+use Rattle.alc.specs.Meaning.{SheetSatisfiable, Forces}
 use Rattle.alc.specs.Label.{Label}
 use Rattle.alc.specs.Settle.{Joint}
 use Rattle.alc.specs.Seeds.{bound}
 use Rattle.alc.specs.Judge.{Entry, settledJoints, AllSatisfiable, Reached}
 use Rattle.alc.specs.Model.{TenMeans}
-use Rattle.alc.specs.Causes.{withRules, denial, Cause, NoSubsetForces}
+use Rattle.alc.specs.Causes.{withRules, denial, Cause, NoSubsetForces, topBit, rulesOf}
 use Rattle.alc.specs.Replies.{Reply, mostRecords, satisfyReply, causesReply, Balance, faulty, left, balanceReply}
 
 -- ---- the bytes
@@ -99,14 +99,21 @@ pub record SatisfyPromise (bs rs ms os : List ℕ) (o : Reply) : Type 0 where
   pub means : LentWell rs ms → (s : Sheet) → LaidOut s bs → SatisfyMeans s (length rs) os o
 
 -- ---- demand 3, of a sheet and a query that is on it
--- every smallest set of rules that forces the port into the class, each once, in number order, nothing else
+-- a slot is marked exactly if no finite interpretation meets its rules and all assertions
+abbrev pub MarkedRight : Sheet → ℕ → Type 0
+MarkedRight s x = (x < 2 * topBit) × ((topBit ≤ x) ↔ (SheetSatisfiable (withRules s (rulesOf x)) → ⊥))
+
+-- every smallest set of rules that forces the port into the class, each once, in number order, nothing else; and each marked
 abbrev pub CauseList : Sheet → ℕ → ℕ → List ℕ → Type 0
-CauseList s port class l = Ascending l × ((n : ℕ) → (n ∈ l) ↔ Cause s port class n)
+CauseList s port class l =
+    Ascending (map rulesOf l) × ((n : ℕ) → (n ∈ map rulesOf l) ↔ Cause s port class n) × ((x : ℕ) → x ∈ l → MarkedRight s x)
 
 pub record CausesMeans (s : Sheet) (port class room : ℕ) (os : List ℕ) (o : Reply) : Type 0 where
-  -- "exactly when some set, none of whose proper subsets forces, needs more records than lent", "judged with class fails added at the port"
+  -- "exactly when some set, none of whose proper subsets forces, needs more records than lent", "judged with class fails added at the port";
+  -- or such a set that forces does "without class fails"
   pub thirteen : (o .number ≡ 13)
-      ↔ ((n : ℕ) × (n < 2 ^ length (s .rules)) × NoSubsetForces s port class n × MoreSeeds (withRules s n) (denial port class) room)
+      ↔ ((n : ℕ) × (n < 2 ^ length (s .rules)) × NoSubsetForces s port class n
+      × (MoreSeeds (withRules s n) (denial port class) room ⊎ (Forces (withRules s n) port class × MoreSeeds (withRules s n) [] room)))
   pub thirteen-alone : o .number ≡ 13 → (o .carries ≡ 0) × (o .out ≡ replicate (length os) 0)
   pub never-thirteen : bound s ≤ room → o .number ≡ 13 → ⊥
   pub fourteen : o .number ≡ 14 → CauseList s port class (take (o .carries) (o .out)) × ZerosBehind os o

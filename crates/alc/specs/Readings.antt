@@ -190,6 +190,18 @@ keptInOrder = 5 ∷ 2 ∷ 0 ∷ 3 ∷ 0 ∷ 2 ∷ 1 ∷ 6 ∷ 0 ∷ 2 ∷ 2 ∷ 
 writtenTwice : List ℕ
 writtenTwice = 2 ∷ 2 ∷ 0 ∷ 2 ∷ 1 ∷ 2 ∷ 0 ∷ 1 ∷ 0 ∷ 1 ∷ 1 ∷ 1 ∷ 0 ∷ 0 ∷ 0 ∷ []
 
+-- lines A, B, bottom; rules A ⊑ bottom, A ⊑ B; one port, in A
+bothKinds : List ℕ
+bothKinds = 3 ∷ 2 ∷ 0 ∷ 2 ∷ 1 ∷ 1 ∷ 2 ∷ 0 ∷ 2 ∷ 0 ∷ 1 ∷ 1 ∷ 1 ∷ 0 ∷ 0 ∷ 0 ∷ []
+
+-- lines top, some 0 top; one port, in the second: denied, it clashes at once; not denied, it asks for a seed
+judgedAgain : List ℕ
+judgedAgain = 2 ∷ 0 ∷ 6 ∷ 0 ∷ 0 ∷ 0 ∷ 1 ∷ 1 ∷ 0 ∷ 1 ∷ 0 ∷ []
+
+-- lines top, some 0 top, A, 1 or 2; one port, in the last: denied the second line, it is in A and asks for nothing; not denied, it asks for a seed
+judgedOnce : List ℕ
+judgedOnce = 4 ∷ 0 ∷ 6 ∷ 0 ∷ 0 ∷ 2 ∷ 0 ∷ 5 ∷ 1 ∷ 2 ∷ 0 ∷ 1 ∷ 1 ∷ 0 ∷ 3 ∷ 0 ∷ []
+
 pub limitRows : List Row
 limitRows =
     -- cut short. 1 stands at the first byte of the number that was begun, else at the sheet's length
@@ -292,7 +304,7 @@ limitRows =
     ∷ ends denied (caused 0 1 (lending 0 1)) 13 0 (0 ∷ [])
     ∷ ends denied (caused 0 1 (lending 1 1)) 14 0 (0 ∷ [])
     ∷ ends overshadowed (caused 0 1 (lending 0 1)) 13 0 (0 ∷ [])
-    ∷ ends overshadowed (caused 0 1 (lending 1 1)) 14 1 (1 ∷ [])
+    ∷ ends overshadowed (caused 0 1 (lending 1 1)) 14 1 (32769 ∷ [])
     -- all sets. Every set is judged, also where the list is already too long
     ∷ ends crowded (caused 0 1 (lending 0 0)) 13 0 []
     ∷ ends crowded (caused 0 1 (lending 1 0)) 15 1 []
@@ -304,11 +316,18 @@ limitRows =
     ∷ ends writtenTwice (caused 0 1 (lending 0 2)) 14 2 (1 ∷ 2 ∷ [])
     -- no rule at all. Nothing forces a port of which nothing is said; contradictory assertions force everything, by no rule at all
     ∷ ends twoPorts (caused 1 2 (lending 0 1)) 14 0 (0 ∷ [])
-    ∷ ends contradicted (caused 0 2 (lending 0 2)) 14 1 (0 ∷ 0 ∷ [])
+    ∷ ends contradicted (caused 0 2 (lending 0 2)) 14 1 (32768 ∷ 0 ∷ [])
+    -- marks. A contradictory set is marked and a catching one is not, whichever has the lower number; the order is that of the rules
+    ∷ ends bothKinds (caused 0 1 (lending 0 3)) 14 2 (32769 ∷ 2 ∷ 0 ∷ [])
+    -- judged again. A listed set is judged without class fails too, and lacks room by either; a set that is not listed is not judged again
+    ∷ ends judgedAgain (caused 0 1 (lending 0 1)) 13 0 (0 ∷ [])
+    ∷ ends judgedAgain (caused 0 1 (lending 1 1)) 14 1 (0 ∷ [])
+    ∷ ends judgedOnce (caused 0 1 (lending 0 1)) 14 0 (0 ∷ [])
     ∷ []
 
 pub limits : answers limitRows ≡ expectations limitRows
-unfolding limitRows twoPorts contradicted denied overshadowed crowded settledByDenial keptInOrder writtenTwice P1 P6 P9 P11 computing
+unfolding limitRows twoPorts contradicted denied overshadowed crowded settledByDenial keptInOrder writtenTwice bothKinds judgedAgain judgedOnce P1 P6
+    P9 P11 computing
 limits = refl
 
 -- ---- balances around zero

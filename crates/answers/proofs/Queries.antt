@@ -11,7 +11,7 @@ use native.Mathlib.Omega.{arith}
 use borrow.Author.Tests.{ltb-true, lt-ltb, le-ltb, le-leb, lt-leb, not-false}
 use Rattle.alc.specs.Sheet.{Sheet, count}
 use Rattle.alc.specs.Model as theory
-use Rattle.alc.specs.Causes.{listed, causesAnswer}
+use Rattle.alc.specs.Causes.{slots as causeSlots, causesAnswer}
 use Rattle.alc.specs.Theorems.Lists.{and-left, and-right}
 use Rattle.answers.specs.declared.Answer.the-variants.{OutOfSpace, Causes, LongList}
 use Rattle.sets.specs.declared.list.Listed.{Listed}
@@ -69,7 +69,7 @@ module _ (s : Sheet) (port class room slots : ℕ) (before after : List ℕ) (r 
     -- a slot for each cause, and zeros in the rest
     pub answer-list : n ≤ length after → Queried answer slots (Causes n) after
     answer-list h =
-        let xs = listed s port class in
+        let xs = causeSlots s port class in
         let fit : length xs ≤ length before = omega (arith, told e .1, same) in
         let behind : drop (length xs) before ≡ replicate (slots - length xs) 0 = ap (drop (length xs)) blank ∙ drop-replicate (length xs) slots 0 in
         rw (told e .0) (record {

@@ -1,4 +1,4 @@
--- Forcing: what is asked besides is entered behind the class assertions, and each verdict on such a start says whether the port is forced.
+-- Judging a set: what is asked besides is entered behind the class assertions, and each verdict on such a start says whether any joint label is fine.
 use Prim.Native.Nat.{ℕ, _≤_, _<_, max}
 use mathlib.Core.Path.{_≡_, refl, _∙_, ap}
 use mathlib.Core.List.{List, [], _∷_, _++_, map}
@@ -13,7 +13,7 @@ use Rattle.alc.specs.Label.{add, blank}
 use Rattle.alc.specs.Settle as theory
 use Rattle.alc.specs.Settle.{markAt}
 use Rattle.alc.specs.Judge.{Entry, enter, firstFine, recordsNeeded, start}
-use Rattle.alc.specs.Causes.{denial, forces, isNothing}
+use Rattle.alc.specs.Causes.{denial, isNothing}
 use Rattle.tableau.specs.declared.joint.Labels.{Labels}
 use Rattle.tableau.specs.Joints.{jointOf, Fit}
 use Rattle.tableau.proofs.Jointly.{with-fits, with-is}
@@ -22,7 +22,7 @@ use Rattle.engine.specs.declared.judge.Verdict.the-variants.{Full, Going, Fine}
 use Rattle.engine.specs.Verdicts.{JudgedAll}
 use Rattle.engine.proofs.Told.{needs-more, none-enough, none-fine, found-enough, found-first}
 use Rattle.sets.specs.declared.force.Forced.the-variants as forced
-use Rattle.sets.specs.Sets.{forcedBy, whether}
+use Rattle.sets.specs.Sets.{judgedBy, whether}
 
 -- ---- where the work begins
 -- entries that come behind others are entered after them
@@ -47,30 +47,26 @@ denied-begins s port class on j r (begin, fit) l e w =
       with-fits j r port f l inside e w s fit,
     )
 
--- ---- the verdict where the class is denied: is the port forced?
-module _ (s : Sheet) (port class room : ℕ) where
+-- ---- the verdict from where the work begins
+module _ (s : Sheet) (xs : List Entry) (room : ℕ) where
   -- there is no room to tell
-  forced-full : room < length (recordsNeeded s (denial port class)) → forced.Full ≡ forcedBy s port class room
-  unfolding forcedBy
-  forced-full h = rw (lt-ltb room (length (recordsNeeded s (denial port class))) h, forcedBy)
+  judged-full : room < length (recordsNeeded s xs) → forced.Full ≡ judgedBy s xs room
+  unfolding judgedBy
+  judged-full h = rw (lt-ltb room (length (recordsNeeded s xs)) h, judgedBy)
 
   -- there is room, and the first settled joint label that is fine tells
-  forced-told : length (recordsNeeded s (denial port class)) ≤ room → (o : Maybe theory.Joint) → firstFine s (denial port class) ≡ o
-      → whether (isNothing o) ≡ forcedBy s port class room
-  unfolding forcedBy forces
-  forced-told h o e = rw (le-ltb room (length (recordsNeeded s (denial port class))) h, forcedBy, forces, e)
+  judged-told : length (recordsNeeded s xs) ≤ room → (o : Maybe theory.Joint) → firstFine s xs ≡ o → whether (isNothing o) ≡ judgedBy s xs room
+  unfolding judgedBy
+  judged-told h o e = rw (le-ltb room (length (recordsNeeded s xs)) h, judgedBy, e)
 
 -- as the code tells it
 module _ {s : Sheet} {J : theory.Joint} {before marks : List ℕ} {r : Judged} {after marks′ : List ℕ} (judged : JudgedAll s J 0 before marks r after marks′)
-    (port class : ℕ) (begin : J ≡ start s (denial port class)) where
-  pub forces-full : r .verdict ≡ Full → forced.Full ≡ forcedBy s port class (length before)
-  forces-full e = forced-full s port class (length before) (needs-more judged (denial port class) begin e)
+    (xs : List Entry) (begin : J ≡ start s xs) where
+  pub verdict-full : r .verdict ≡ Full → forced.Full ≡ judgedBy s xs (length before)
+  verdict-full e = judged-full s xs (length before) (needs-more judged xs begin e)
 
-  pub forces-yes : (n : ℕ) → r .verdict ≡ Going n → forced.Yes ≡ forcedBy s port class (length before)
-  forces-yes n e =
-      forced-told s port class (length before) (none-enough judged (denial port class) begin n e) nothing (none-fine judged (denial port class) begin n e)
+  pub verdict-yes : (n : ℕ) → r .verdict ≡ Going n → forced.Yes ≡ judgedBy s xs (length before)
+  verdict-yes n e = judged-told s xs (length before) (none-enough judged xs begin n e) nothing (none-fine judged xs begin n e)
 
-  pub forces-no : (n : ℕ) → r .verdict ≡ Fine n → forced.No ≡ forcedBy s port class (length before)
-  forces-no n e =
-      forced-told s port class (length before) (found-enough judged (denial port class) begin n e) (just (jointOf (r .joint)))
-      (found-first judged (denial port class) begin n e)
+  pub verdict-no : (n : ℕ) → r .verdict ≡ Fine n → forced.No ≡ judgedBy s xs (length before)
+  verdict-no n e = judged-told s xs (length before) (found-enough judged xs begin n e) (just (jointOf (r .joint))) (found-first judged xs begin n e)

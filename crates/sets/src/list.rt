@@ -1,5 +1,6 @@
 // The list of the smallest forcing sets. Sets go by number, so that every part of a set comes before it; a set one of whose parts forces is not judged.
 use crate::force::Forced;
+use crate::force::contradicts;
 use crate::force::forces;
 ghost use mathlib.Core.Path.{_≡_};
 ghost use mathlib.Core.Bool.{_&&_, false};
@@ -7,11 +8,15 @@ ghost use Prim.Native.Nat.{_-_, _^_, _<_, _≤_};
 ghost use lib.ListN.{length, getD, set};
 ghost use Rattle.alc.specs.Bits.{bit};
 ghost use Rattle.alc.specs.Lists.{any, upTo};
+ghost use Rattle.alc.specs.Causes.{withRules};
 ghost use Rattle.plan.specs.Plan.{planSheet, Prepared};
-ghost use Rattle.sets.specs.Sets.{OnSheet, Flagged, TakenTo, ListedTo};
+ghost use Rattle.sets.specs.Sets.{OnSheet, contradictedBy, markedBy, Flagged, TakenTo, ListedTo};
 
 // As many as there are sets of twelve rules.
 const SETS: usize = 4096;
+
+// The top bit of a slot.
+const CONTRADICTORY: u16 = 32768;
 
 // Whether the set without one of its rules forces. Where any part of a set does, one of these does, so that the smaller ones need not be looked at.
 fn part_forces(flags: &[bool; SETS], set: u32, rules: u32) -> bool
@@ -31,11 +36,27 @@ fn part_forces(flags: &[bool; SETS], set: u32, rules: u32) -> bool
     false
 }
 
-// There was no room; the set is a cause; or it is none.
+// There was no room; the set is a cause, catching or contradictory; or it is none.
 enum Taken {
     Full,
-    Cause,
+    Catching,
+    Contradictory,
     Other,
+}
+
+// A smallest forcing set: judged a second time, without "class fails".
+fn mark_set(plan: &[u32; plan::SIZE], set: u32, records: &mut [u64], marks: &mut [u8]) -> Taken
+    requires { ⌜ Prepared (now plan) ⌝ }
+    requires { ⌜ length (now records) ≤ length (now marks) ⌝ }
+    ensures { λ r. ⌜ r ≡ markedBy (contradictedBy (withRules (planSheet (now (plan .entry))) set) (length (now (records .entry)))) ⌝ }
+    ensures { λ r. ⌜ (length (now (records .exit)) ≡ length (now (records .entry))) × (length (now (marks .exit)) ≡ length (now (marks .entry))) ⌝ }
+{
+    let against = contradicts(plan, set, records, marks);
+    match against {
+        Forced::Full => Taken::Full,
+        Forced::Yes => Taken::Contradictory,
+        Forced::No => Taken::Catching,
+    }
 }
 
 // One set: judged if none of its parts forces. Its flag says from now on whether it forces.
@@ -66,7 +87,7 @@ fn take_set(
         Forced::Full => Taken::Full,
         Forced::Yes => {
             flags[set as usize] = true;
-            Taken::Cause
+            mark_set(plan, set, records, marks)
         }
         Forced::No => {
             flags[set as usize] = false;
@@ -115,8 +136,12 @@ pub fn list_causes(
             Taken::Full => {
                 return Listed::Full;
             }
-            Taken::Cause => {
+            Taken::Catching => {
                 put_slot(list, found, set as u16);
+                found += 1;
+            }
+            Taken::Contradictory => {
+                put_slot(list, found, set as u16 + CONTRADICTORY);
                 found += 1;
             }
             Taken::Other => {}

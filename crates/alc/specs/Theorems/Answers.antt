@@ -1,28 +1,31 @@
 -- What the replies mean, in the demands' own words.
-use Prim.Native.Nat.{ℕ, zero, suc, _^_, _≤_, _<_}
-use mathlib.Core.Bool.{Bool, true, false, _&&_}
-use mathlib.Core.Path.{_≡_, refl, sym, _∙_, ap}
+use Prim.Native.Nat.{ℕ, zero, suc, _+_, _^_, _≤_, _<_}
+use mathlib.Core.Bool.{Bool, true, false, _&&_, _||_}
+use mathlib.Core.Path.{_≡_, refl, sym, _∙_, ap, ap₂, subst}
 use mathlib.Core.Logic.{_↔_, _⊎_, inl, inr, ⊎-elim}
-use mathlib.Core.List.{List, [], _∷_, List·Memᴰ·not-nil}
+use mathlib.Core.List.{List, [], _∷_, map, List·Memᴰ·not-nil, Memᴰ·of-map}
 use lib.ListN.{length, getD}
 use lib.Dec.{ltb}
+use lib.Pow.{pow-mono}
 use borrow.Author.Tests.{ltb-true, ltb-false, lt-ltb, le-ltb}
 use native.Mathlib.Omega.{arith}
 use Rattle.alc.specs.Lists.{_∈_, any, Ascending, from, nothing, Maybe, just, filter}
-use Rattle.alc.specs.Sheet.{Sheet, count}
-use Rattle.alc.specs.Meaning.{SheetSatisfiable}
+use Rattle.alc.specs.Sheet.{Sheet, count, mostRules}
+use Rattle.alc.specs.Meaning.{SheetSatisfiable, Forces}
 use Rattle.alc.specs.Settle.{Joint}
 use Rattle.alc.specs.Seeds.{bound, quantified}
 use Rattle.alc.specs.Judge.{recordsNeeded, Entry, firstFine}
 use Rattle.alc.specs.Model.{satisfyAnswer, Finding, told, modelWords}
-use Rattle.alc.specs.Causes.{denial, causesAnswer, forcing, noSubsetForces, ruleSets, NoSubsetForces, listed, withRules}
+use Rattle.alc.specs.Causes.{denial, causesAnswer, forcing, noSubsetForces, ruleSets, NoSubsetForces, listed, withRules, contradictory, topBit, rulesOf}
+use Rattle.alc.specs.Causes.{slotOf, slots, lacksRoom}
+use Rattle.alc.specs.Promises.{MarkedRight}
 use Rattle.alc.specs.Theorems.Lists.{and-both, cases, any-intro, upTo-intro, filter-elim, and-left, and-right, from-elim, any-elim, filter-step}
-use Rattle.alc.specs.Theorems.Lists.{upTo-elim}
+use Rattle.alc.specs.Theorems.Lists.{upTo-elim, here, there, clashing, or-cases, or-left, or-right}
 use Rattle.alc.specs.Theorems.Sorted.{Sorted, sorted-unique}
 use Rattle.alc.specs.Theorems.Sheet.{WellFormed}
 use Rattle.alc.specs.Theorems.Decides.{satisfiable-found}
 use Rattle.alc.specs.Theorems.Records.{records-bound}
-use Rattle.alc.specs.Theorems.Causes.{forces-at, no-subset-elim, no-subset-intro}
+use Rattle.alc.specs.Theorems.Causes.{forces-at, forcing-at, no-subset-elim, no-subset-intro, kept-well-formed, contradictory-is}
 
 -- ---- demand 2, over the reply itself
 no-extra : (x : Entry) → x ∈ [] → ⊥
@@ -124,16 +127,74 @@ ascending-sorted (x ∷ xs) p = (p .0, ascending-sorted xs (p .1))
 pub ascending-unique : (xs ys : List ℕ) → Ascending xs → Ascending ys → ((n : ℕ) → (n ∈ xs) ↔ (n ∈ ys)) → xs ≡ ys
 ascending-unique xs ys p q h = sorted-unique _<_ (λ x y a b. omega arith) xs ys (ascending-sorted xs p) (ascending-sorted ys q) h
 
+-- ---- slots
+module _ (s : Sheet) (wf : WellFormed s) (n : ℕ) (n< : n < topBit) where
+  -- a slot has its set, and its mark says whether the set is contradictory
+  slot-is : (rulesOf (slotOf s n) ≡ n) × MarkedRight s (slotOf s n)
+  unfolding slotOf
+  slot-is =
+      ⊎-elim
+      (λ (e : contradictory (withRules s n) ≡ true).
+      let rules : rulesOf (n + topBit) ≡ n = omega arith in
+      rw e (
+        rules,
+        (
+          omega arith,
+          (
+            λ _. subst (λ (m : ℕ). SheetSatisfiable (withRules s m) → ⊥) (sym rules)
+                (contradictory-is (withRules s n) (kept-well-formed s wf n) .0 e),
+            λ _. omega arith,
+          ),
+        ),
+      ))
+      (λ (e : contradictory (withRules s n) ≡ false).
+      let rules : rulesOf n ≡ n = omega arith in
+      rw e (
+        rules,
+        (
+          omega arith,
+          (
+            (λ h. absurd (omega arith)),
+            λ none. absurd (clashing (contradictory (withRules s n))
+                (contradictory-is (withRules s n) (kept-well-formed s wf n) .1 (subst (λ (m : ℕ). SheetSatisfiable (withRules s m) → ⊥) rules none)) e),
+          ),
+        ),
+      ))
+      (cases (contradictory (withRules s n)))
+
+module _ (s : Sheet) (wf : WellFormed s) where
+  slots-rules : (l : List ℕ) → ((n : ℕ) → n ∈ l → n < topBit) → map rulesOf (map (slotOf s) l) ≡ l
+  slots-rules [] h = refl
+  slots-rules (n ∷ l) h = ap₂ {C = List ℕ} (λ x r. x ∷ r) (slot-is s wf n (h n here) .0) (slots-rules l (λ m i. h m (there i)))
+
+  pub slots-marked : (l : List ℕ) → ((n : ℕ) → n ∈ l → n < topBit) → (x : ℕ) → x ∈ map (slotOf s) l → MarkedRight s x
+  slots-marked l h x i = let (n, n-in, e) = Memᴰ·of-map (slotOf s) l i in subst (MarkedRight s) e (slot-is s wf n (h n n-in) .1)
+
+listed-below : (s : Sheet) (port class n : ℕ) → n ∈ listed s port class → n < 2 ^ length (s .rules)
+unfolding listed
+listed-below s port class n h =
+    let (i, _) = filter-elim (λ n. noSubsetForces s (forcing s port class) n && getD (forcing s port class) n false) (ruleSets s) h in
+    upTo-elim (2 ^ length (s .rules)) n i
+
+-- the slots without their marks are the list
+pub slots-are : (s : Sheet) → WellFormed s → (port class : ℕ) → length (s .rules) ≤ mostRules
+    → (map rulesOf (slots s port class) ≡ listed s port class) × ((x : ℕ) → x ∈ slots s port class → MarkedRight s x)
+unfolding slots
+slots-are s wf port class few = (slots-rules s wf (listed s port class) small, slots-marked s wf (listed s port class) small)
+  where
+    small : (n : ℕ) → n ∈ listed s port class → n < topBit
+    small n h = let inside = listed-below s port class n h in let most : 2 ^ length (s .rules) ≤ 4096 = pow-mono few in omega arith
+
 module _ (s : Sheet) (port class room : ℕ) where
   -- a set that would have to be judged needs more records than there are
   abbrev pub short : ℕ → Bool
-  short n = noSubsetForces s (forcing s port class) n && ltb room (length (recordsNeeded (withRules s n) (denial port class)))
+  short n = lacksRoom s port class room (forcing s port class) n
 
   pub causes-short : any short (ruleSets s) ≡ true → causesAnswer s port class room ≡ record { number = 13; out = [] }
   unfolding causesAnswer
   causes-short h = rw (h, causesAnswer)
 
-  pub causes-listed : any short (ruleSets s) ≡ false → causesAnswer s port class room ≡ record { number = 14; out = listed s port class }
+  pub causes-listed : any short (ruleSets s) ≡ false → causesAnswer s port class room ≡ record { number = 14; out = slots s port class }
   unfolding causesAnswer
   causes-listed h = rw (h, causesAnswer)
 
@@ -144,7 +205,7 @@ module _ (s : Sheet) (port class room : ℕ) where
     λ t. ap (λ (r : Finding). r .number) (causes-short t),
   )
 
-  pub causes-fourteen : causesAnswer s port class room .number ≡ 14 → causesAnswer s port class room .out ≡ listed s port class
+  pub causes-fourteen : causesAnswer s port class room .number ≡ 14 → causesAnswer s port class room .out ≡ slots s port class
   causes-fourteen e =
       ⊎-elim
       (λ (t : any short (ruleSets s) ≡ true). absurd (let a : _≡_ {A = ℕ} 13 14 = sym (ap (λ (r : Finding). r .number) (causes-short t)) ∙ e in omega arith))
@@ -160,30 +221,58 @@ module _ (s : Sheet) (port class room : ℕ) where
       (cases (any short (ruleSets s)))
 
   module _ (wf : WellFormed s) (p< : port < s .individuals) (c< : class < count s) where
+    -- set n needs more records than lent: with "class fails", or, where it forces, without
+    abbrev pub Lacks : ℕ → Type 0
+    Lacks n = (room < length (recordsNeeded (withRules s n) (denial port class)))
+        ⊎ (Forces (withRules s n) port class × (room < length (recordsNeeded (withRules s n) [])))
+
+    lacks-is : (n : ℕ) → n < 2 ^ length (s .rules) → (short n ≡ true) ↔ (NoSubsetForces s port class n × Lacks n)
+    unfolding lacksRoom
+    lacks-is n n< = (
+      λ t.
+          let rest = and-right none (more || listed? && again) t in (
+            (λ m m< w ne f. no-subset-elim s wf port class p< c< n (and-left none (more || listed? && again) t) m m< w ne
+                (forces-at s wf port class p< c< m .1 f)),
+            ⊎-elim
+                (λ h. inl (ltb-true room _ h))
+                (λ h. inr (
+                  forces-at s wf port class p< c< n .0 (sym (forcing-at s port class n n<) ∙ and-left listed? again h),
+                  ltb-true room _
+                      (and-right listed? again h),
+                ))
+                (or-cases more (listed? && again) rest),
+          ),
+      λ (least, lacks). and-both none _ (no-subset-intro s wf port class p< c< n (λ m m< w ne f. least m m< w ne (forces-at s wf port class p< c< m .0 f)))
+          (⊎-elim
+          (λ h. or-left more (listed? && again) (lt-ltb room _ h))
+          (λ (f, h). or-right more (listed? && again) (and-both listed? again (forcing-at s port class n n< ∙ forces-at s wf port class p< c< n .1 f)
+          (lt-ltb room _ h)))
+          lacks),
+    )
+      where
+        none : Bool
+        none = noSubsetForces s (forcing s port class) n
+
+        more : Bool
+        more = ltb room (length (recordsNeeded (withRules s n) (denial port class)))
+
+        listed? : Bool
+        listed? = getD (forcing s port class) n false
+
+        again : Bool
+        again = ltb room (length (recordsNeeded (withRules s n) []))
+
     -- 13 exactly when some set, none of whose proper subsets forces, needs more records than lent
     pub causes-thirteen : (causesAnswer s port class room .number ≡ 13)
-        ↔ ((n : ℕ) × (n < 2 ^ length (s .rules)) × NoSubsetForces s port class n × (room < length (recordsNeeded (withRules s n) (denial port class))))
-    causes-thirteen = (there-, back)
-      where
-        there- : causesAnswer s port class room .number ≡ 13 → (n : ℕ) × (n < 2 ^ length (s .rules)) × NoSubsetForces s port class n
-            × (room < length (recordsNeeded (withRules s n) (denial port class)))
-        there- e =
-            let (n, i, t) = any-elim short (ruleSets s) (short-iff .0 e) in
-            let sm = and-left (noSubsetForces s (forcing s port class) n) (ltb room (length (recordsNeeded (withRules s n) (denial port class)))) t in
-            let lt = and-right (noSubsetForces s (forcing s port class) n) (ltb room (length (recordsNeeded (withRules s n) (denial port class)))) t in (
-              n,
-              upTo-elim (2 ^ length (s .rules)) n i,
-              (λ m m< w ne f. no-subset-elim s wf port class p< c< n sm m m< w ne
-                  (forces-at s wf port class p< c< m .1 f)),
-              ltb-true room _ lt,
-            )
-
-        back : ((n : ℕ) × (n < 2 ^ length (s .rules)) × NoSubsetForces s port class n × (room < length (recordsNeeded (withRules s n) (denial port class))))
-            → causesAnswer s port class room .number ≡ 13
-        back (n, n<, least, lt) =
-            short-iff .1 (any-intro short (ruleSets s) (upTo-intro (2 ^ length (s .rules)) n n<)
-            (and-both (noSubsetForces s (forcing s port class) n) _
-            (no-subset-intro s wf port class p< c< n (λ m m< w ne f. least m m< w ne (forces-at s wf port class p< c< m .0 f))) (lt-ltb room _ lt)))
+        ↔ ((n : ℕ) × (n < 2 ^ length (s .rules)) × NoSubsetForces s port class n × Lacks n)
+    causes-thirteen = (
+      λ e.
+          let (n, i, t) = any-elim short (ruleSets s) (short-iff .0 e) in
+          let n< = upTo-elim (2 ^ length (s .rules)) n i in
+          let (least, lacks) = lacks-is n n< .0 t in
+          (n, n<, least, lacks),
+      λ (n, n<, least, lacks). short-iff .1 (any-intro short (ruleSets s) (upTo-intro (2 ^ length (s .rules)) n n<) (lacks-is n n< .1 (least, lacks))),
+    )
 
 -- the lines are the same, so e is
 bound-same : (s : Sheet) (n : ℕ) → bound (withRules s n) ≡ bound s
@@ -194,5 +283,8 @@ bound-same s n = refl
 pub causes-never : (s : Sheet) → WellFormed s → (port class room : ℕ) → port < s .individuals → class < count s → bound s ≤ room
     → causesAnswer s port class room .number ≡ 13 → ⊥
 causes-never s wf port class room p< c< h e =
-    let (n, n<, _, lt) = causes-thirteen s port class room wf p< c< .0 e in
-    omega (arith, records-bound (withRules s n) (denial port class), bound-same s n)
+    let (n, n<, _, lacks) = causes-thirteen s port class room wf p< c< .0 e in
+    ⊎-elim
+    (λ lt. omega (arith, records-bound (withRules s n) (denial port class), bound-same s n))
+    (λ (_, lt). omega (arith, records-bound (withRules s n) [], bound-same s n))
+    lacks

@@ -1,26 +1,27 @@
 -- What the cause list speaks of: `forces` is what its name says; and that leaving out one rule at a time tells whether any proper subset forces.
-use Prim.Native.Nat.{ℕ, suc, _+_, _-_, _^_, _<_, max}
+use Prim.Native.Nat.{ℕ, zero, suc, _+_, _-_, _^_, _<_, max}
 use mathlib.Core.Bool.{Bool, true, false, not as flip, _&&_, _||_, cond, false≢true}
 use mathlib.Core.Path.{_≡_, refl, sym, _∙_, ap, subst}
 use mathlib.Core.Logic.{_↔_, ⊎-elim}
 use mathlib.Core.List.{List, [], _∷_, List·Memᴰ·eq-of-singleton, List·Memᴰ·head, List·Memᴰ·tail, List·Memᴰ·append-cases, Memᴰ·append-left, Memᴰ·append-right}
-use mathlib.Core.List.{Memᴰ·cast}
+use mathlib.Core.List.{Memᴰ·cast, List·Memᴰ·not-nil}
 use lib.ListN.{length, getD}
 use lib.Dec.{eqb}
 use lib.Pow.{pow-pos}
 use borrow.Author.Tests.{not-true, eqb-false, ne-eqb}
 use native.Mathlib.Omega.{arith}
 use Rattle.alc.specs.Bits.{bit}
-use Rattle.alc.specs.Lists.{_∈_, nothing, Maybe, just, filter, upTo, all}
+use Rattle.alc.specs.Lists.{_∈_, nothing, Maybe, just, filter, upTo, any, all}
 use Rattle.alc.specs.Sheet.{count, Rule, ClassAssertion, Sheet}
-use Rattle.alc.specs.Meaning.{truth, Forces, meetsRules, meetsClasses, meetsRoles}
+use Rattle.alc.specs.Meaning.{truth, SheetSatisfiable, Forces, meetsRules, meetsClasses, meetsRoles}
 use Rattle.alc.specs.Label.{lineOf, markTrue, fails}
 use Rattle.alc.specs.Settle.{Joint}
 use Rattle.alc.specs.Judge.{Entry, EntriesTrue, firstFine}
-use Rattle.alc.specs.Causes.{keepRules, denial, within, NoSubsetForces, forcing, noSubsetForces, Cause, listed, isNothing, withRules, ruleSets, forces}
+use Rattle.alc.specs.Causes.{contradictory, keepRules, denial, within, NoSubsetForces, forcing, noSubsetForces, Cause, listed, isNothing, withRules}
+use Rattle.alc.specs.Causes.{ruleSets, forces}
 use Rattle.alc.specs.Theorems.Lists.{and-both, and-right, filter-intro, implies, implied, tests-same, same?, all-fails, not-of-false, or-false-left}
 use Rattle.alc.specs.Theorems.Lists.{or-false-right, cond-intro, cond-elim, clashing, cases, all-intro, here, all-elim, upTo-intro, filter-elim}
-use Rattle.alc.specs.Theorems.Lists.{and-left, upTo-elim, map-from}
+use Rattle.alc.specs.Theorems.Lists.{and-left, upTo-elim, map-from, any-elim, any-none}
 use Rattle.alc.specs.Theorems.Sheet.{WellFormed}
 use Rattle.alc.specs.Theorems.Bits.{bit-le, bit-below, bit-ext, bit-without-other}
 use Rattle.alc.specs.Theorems.Meaning.{truth-lines, rules-intro, rules-elim}
@@ -155,6 +156,14 @@ within-both : (t m n : ℕ) → m < 2 ^ t → n < 2 ^ t → within t m n ≡ tru
 within-both t m n m< n< w v = bit-ext m n (λ j.
     tests-same (bit m j) (bit n j) (λ e. within-elim t m n w j (bit-below m t j m< e) e) (λ e. within-elim t n m v j (bit-below n t j n< e) e))
 
+-- a set without one of its rules is within it
+without-within : (t n i : ℕ) → bit n i ≡ true → within t (n - 2 ^ i) n ≡ true
+without-within t n i e =
+    within-intro t (n - 2 ^ i) n (λ j q. ⊎-elim (λ p. ap (bit n) (sym p) ∙ e) (λ p. sym (bit-without-other n i j e p) ∙ q) (same? i j))
+
+within-trans : (t m k n : ℕ) → m < 2 ^ t → within t m k ≡ true → within t k n ≡ true → within t m n ≡ true
+within-trans t m k n m< w v = within-intro t m n (λ j e. let j< = bit-below m t j m< e in within-elim t k n v j j< (within-elim t m k w j j< e))
+
 -- what a set of rules forces, a set that has all of them forces
 pub forces-mono : (s : Sheet) (port class m n : ℕ) → within (length (s .rules)) m n ≡ true → Forces (withRules s m) port class
     → Forces (withRules s n) port class
@@ -182,7 +191,7 @@ drop-one s port class n n< = (there, back)
     there : NoSubsetForces s port class n → (i : ℕ) → i < length (s .rules) → bit n i ≡ true → Forces (withRules s (n - 2 ^ i)) port class → ⊥
     there h i i< e =
         h (n - 2 ^ i) (omega arith)
-        (within-intro (length (s .rules)) (n - 2 ^ i) n (λ j q. ⊎-elim (λ p. ap (bit n) (sym p) ∙ e) (λ p. sym (bit-without-other n i j e p) ∙ q) (same? i j)))
+        (without-within (length (s .rules)) n i e)
         (λ q. omega (arith, bit-le n i e, pow-pos i))
 
     back : ((i : ℕ) → i < length (s .rules) → bit n i ≡ true → Forces (withRules s (n - 2 ^ i)) port class → ⊥) → NoSubsetForces s port class n
@@ -198,3 +207,60 @@ drop-one s port class n n< = (there, back)
         bit-without-other n i j e (λ p. clashing (bit m j) j-in (ap (bit m) (sym p) ∙ no))
         ∙ within-elim (length (s .rules)) m n w j (bit-below m (length (s .rules)) j m< j-in) j-in)) f))
         (cases (within (length (s .rules)) n m))
+
+-- ---- contradictory sets
+-- `contradictory` is what its name says
+pub contradictory-is : (s : Sheet) → WellFormed s → (contradictory s ≡ true) ↔ (SheetSatisfiable s → ⊥)
+unfolding contradictory
+contradictory-is s wf = (there, back)
+  where
+    there : isNothing (firstFine s []) ≡ true → SheetSatisfiable s → ⊥
+    there e (I, m) =
+        let (K, q) = satisfiable-found s wf [] (I, m, λ x h. absurd (List·Memᴰ·not-nil h)) in
+        false≢true (sym (ap isNothing q) ∙ e)
+
+    back : (SheetSatisfiable s → ⊥) → isNothing (firstFine s []) ≡ true
+    back none = go (firstFine s []) refl
+      where
+        go : (o : Maybe Joint) → firstFine s [] ≡ o → isNothing o ≡ true
+        go nothing e = refl
+        go (just K) e = absurd (let (I, m, _) = found-satisfiable s wf [] (λ x h. absurd (List·Memᴰ·not-nil h)) K e in none (I, m))
+
+-- a contradictory set forces every class at every port, so that its mark depends on neither
+pub contradiction-forces : (s : Sheet) → (SheetSatisfiable s → ⊥) → (port class : ℕ) → Forces s port class
+contradiction-forces s none port class I m = absurd (none (I, m))
+
+module _ (s : Sheet) (wf : WellFormed s) (port class : ℕ) (p< : port < s .individuals) (c< : class < count s) where
+  -- a set that forces has a cause within it: rules are left out as long as what is left forces
+  cause-below : (f n : ℕ) → n < f → n < 2 ^ length (s .rules) → Forces (withRules s n) port class
+      → (m : ℕ) × (within (length (s .rules)) m n ≡ true) × Cause s port class m
+  cause-below zero n low n< forced = absurd (omega arith)
+  cause-below (suc f) n low n< forced =
+      ⊎-elim
+      (λ (t : any smaller (upTo (length (s .rules))) ≡ true).
+      let (i, i-in, both) = any-elim smaller (upTo (length (s .rules))) t in
+      let e : bit n i ≡ true = and-left (bit n i) (forces (withRules s (n - 2 ^ i)) port class) both in
+      let less : n - 2 ^ i < n = omega (arith, bit-le n i e, pow-pos i) in
+      let (m, w, c) = cause-below f (n - 2 ^ i) (omega arith) (omega arith)
+      (forces-at s wf port class p< c< (n - 2 ^ i) .0 (and-right (bit n i) (forces (withRules s (n - 2 ^ i)) port class) both)) in
+      (m, within-trans (length (s .rules)) m (n - 2 ^ i) n (c .is-set) w (without-within (length (s .rules)) n i e), c))
+      (λ (t : any smaller (upTo (length (s .rules))) ≡ false). (
+        n,
+        within-intro (length (s .rules)) n n (λ j h. h),
+        record {
+          is-set = n<;
+          forced = forced;
+          least = drop-one s port class n n< .1 (λ i i< e g.
+              clashing (smaller i) (and-both (bit n i) _ e (forces-at s wf port class p< c< (n - 2 ^ i) .1 g))
+              (any-none smaller (upTo (length (s .rules))) t i (upTo-intro (length (s .rules)) i i<)));
+        },
+      ))
+      (cases (any smaller (upTo (length (s .rules)))))
+    where
+      smaller : ℕ → Bool
+      smaller i = bit n i && forces (withRules s (n - 2 ^ i)) port class
+
+  -- within a contradictory set every class has a cause
+  pub contradiction-has-cause : (n : ℕ) → n < 2 ^ length (s .rules) → (SheetSatisfiable (withRules s n) → ⊥)
+      → (m : ℕ) × (within (length (s .rules)) m n ≡ true) × Cause s port class m
+  contradiction-has-cause n n< none = cause-below (suc n) n (omega arith) n< (contradiction-forces (withRules s n) none port class)

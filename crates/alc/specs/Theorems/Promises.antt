@@ -10,11 +10,11 @@ use lib.Dec.{ltb, leb, eqb}
 use lib.IntN.{pos, _-ℤ_, -ℤ-+ℤ-cancel}
 use borrow.Author.Tests.{ltb-true, ltb-false, lt-ltb, leb-true, leb-false, eqb-true, eqb-false}
 use native.Mathlib.Omega.{arith}
-use Rattle.alc.specs.Sheet.{Sheet, count, wellFormed, inLimits}
+use Rattle.alc.specs.Sheet.{Sheet, count, mostRules, wellFormed, inLimits}
 use Rattle.alc.specs.Bytes.{Read, refused, taken, readSheet}
 use Rattle.alc.specs.Seeds.{bound}
 use Rattle.alc.specs.Model.{Finding, satisfyAnswer, TenMeans}
-use Rattle.alc.specs.Judge.{recordsNeeded}
+use Rattle.alc.specs.Judge.{Entry, recordsNeeded}
 use Rattle.alc.specs.Causes.{causesAnswer, withRules, denial}
 use Rattle.alc.specs.Replies.{Reply, mostRecords, untouched, cleared, finished, checked, satisfyRead, causesRead, satisfyReply, causesReply, Balance}
 use Rattle.alc.specs.Replies.{faulty, balanceRead, balanceReply}
@@ -25,7 +25,7 @@ use Rattle.alc.specs.Theorems.Sheet.{WellFormed, well-formed}
 use Rattle.alc.specs.Theorems.Records.{more-seeds}
 use Rattle.alc.specs.Theorems.Causes.{listed-is, kept-well-formed}
 use Rattle.alc.specs.Theorems.Answers.{thirteen-is, thirteen-never, twelve-only, three-only, listed-ascending, causes-fourteen, causes-thirteen}
-use Rattle.alc.specs.Theorems.Answers.{causes-never, two-only}
+use Rattle.alc.specs.Theorems.Answers.{causes-never, two-only, slots-are}
 use Rattle.alc.specs.Theorems.Bytes.{refused-range, laid-read, faults-of}
 use Rattle.alc.specs.Theorems.Words.{ten-model}
 
@@ -257,7 +257,15 @@ module _ (bs rs ms os : List ℕ) where
   satisfy-unique o o′ p q = p .exact ∙ sym (q .exact)
 
 -- ---- demand 3
-module _ (rs ms os : List ℕ) (s : Sheet) (wf : WellFormed s) (port class : ℕ) (p< : port < s .individuals) (c< : class < count s) where
+few-rules : (s : Sheet) → inLimits s ≡ true → length (s .rules) ≤ mostRules
+unfolding inLimits
+few-rules s lim =
+    let few : ltb (length (s .rules)) (suc mostRules) ≡ true = search (and-left, and-right) in
+    let less = ltb-true (length (s .rules)) (suc mostRules) few in
+    omega arith
+
+module _ (rs ms os : List ℕ) (s : Sheet) (wf : WellFormed s) (few : length (s .rules) ≤ mostRules) (port class : ℕ) (p< : port < s .individuals)
+    (c< : class < count s) where
   abbrev causes : Finding
   causes = causesAnswer s port class (length rs)
 
@@ -268,13 +276,18 @@ module _ (rs ms os : List ℕ) (s : Sheet) (wf : WellFormed s) (port class : ℕ
   not-fifteen e = ⊎-elim (λ f. omega arith) (λ f. omega arith) (two-only s port class (length rs))
 
   list-means : causes .number ≡ 14 → CauseList s port class (causes .out)
-  list-means e = rw (causes-fourteen s port class (length rs) e) (listed-ascending s port class, listed-is s wf port class p< c<)
+  list-means e =
+      let (rules, marked) = slots-are s wf port class few in
+      rw (causes-fourteen s port class (length rs) e)
+      (rw rules (listed-ascending s port class, listed-is s wf port class p< c<, marked))
 
   causes-means : CausesMeans s port class (length rs) os shown
   causes-means = record {
     thirteen = (
-      λ h. let (n, n<, least, lt) = causes-thirteen s port class (length rs) wf p< c< .0 (thirteen-own .0 h) in (n, n<, least, counted n .0 lt),
-      λ (n, n<, least, more). thirteen-own .1 (causes-thirteen s port class (length rs) wf p< c< .1 (n, n<, least, counted n .1 more)),
+      λ h. let (n, n<, least, lacks) = causes-thirteen s port class (length rs) wf p< c< .0 (thirteen-own .0 h) in
+          (n, n<, least, ⊎-elim (λ l. inl (counted n (denial port class) .0 l)) (λ (f, l). inr (f, counted n [] .0 l)) lacks),
+      λ (n, n<, least, more). thirteen-own .1 (causes-thirteen s port class (length rs) wf p< c< .1
+          (n, n<, least, ⊎-elim (λ l. inl (counted n (denial port class) .1 l)) (λ (f, l). inr (f, counted n [] .1 l)) more)),
     );
     thirteen-alone = λ h.
         let q = when-none rs ms os 14 causes 13 (λ e. omega arith) (λ e. omega arith) h in
@@ -293,8 +306,8 @@ module _ (rs ms os : List ℕ) (s : Sheet) (wf : WellFormed s) (port class : ℕ
     one-of = numbers;
   }
     where
-      counted : (n : ℕ) → (length rs < length (recordsNeeded (withRules s n) (denial port class))) ↔ MoreSeeds (withRules s n) (denial port class) (length rs)
-      counted n = more-seeds (withRules s n) (denial port class) (kept-well-formed s wf n) (length rs)
+      counted : (n : ℕ) (xs : List Entry) → (length rs < length (recordsNeeded (withRules s n) xs)) ↔ MoreSeeds (withRules s n) xs (length rs)
+      counted n xs = more-seeds (withRules s n) xs (kept-well-formed s wf n) (length rs)
 
       thirteen-own : (shown .number ≡ 13) ↔ (causes .number ≡ 13)
       thirteen-own = own-number rs ms os 14 causes 13 (λ e. omega arith) (λ e. omega arith)
@@ -378,7 +391,7 @@ module _ (bs : List ℕ) (port class : ℕ) (rs ms os : List ℕ) where
         (⊎-elim
         (λ (off, e). absurd (off (p<, c<)))
         (λ (_, _, e). subst (λ (o : Reply). CausesMeans s port class (length rs) os o) (sym e)
-        (causes-means rs ms os s (well-formed s (is .0)) port class p< c<))
+        (causes-means rs ms os s (well-formed s (is .0)) (few-rules s (is .1)) port class p< c<))
         (query-cases s (length bs)));
   }
 

@@ -1,6 +1,7 @@
 -- `list::list_causes`: the list has the causes among the sets that were taken.
 use Prim.Native.Nat.{ℕ, _-_, _*_, _%_, _^_, _≤_, _<_}
 use mathlib.Core.Path.{_≡_, refl, sym, _∙_, ap}
+use mathlib.Core.Bool.{true, false}
 use mathlib.Core.Logic.{⊎-elim}
 use native.Mathlib.Omega.{arith}
 use lib.ListN.{length, getD}
@@ -118,6 +119,23 @@ add-found c =
 enum-told-3 : tie.Need-enum-told-3 Inv-loop μ-loop
 enum-told-3 c = search needs
 
+cast-put-slot-2 : tie.Need-cast-put-slot-2 Inv-loop μ-loop
+cast-put-slot-2 c = omega (arith, small (turn (c .before .before .before .before .before .before .before)))
+
+add-put-slot : tie.Need-add-put-slot Inv-loop μ-loop
+add-put-slot c = omega (arith, small (turn (c .before .before .before .before .before .before .before)))
+
+put-slot-requires-2 : tie.Need-put-slot-requires-2 Inv-loop μ-loop
+put-slot-requires-2 c κs = tt
+
+add-found-2 : tie.Need-add-found-2 Inv-loop μ-loop
+add-found-2 c =
+    let d = c .before .before .before .before .before .before .before .before .before .before in
+    omega (arith, small (turn d), found-few _ _ _ _ _ (at-loop d .loop .inv .0))
+
+enum-told-4 : tie.Need-enum-told-4 Inv-loop μ-loop
+enum-told-4 c = search needs
+
 add-set : tie.Need-add-set Inv-loop μ-loop
 add-set c = omega (arith, small (turn (c .before .before .before .before .before)))
 
@@ -130,8 +148,10 @@ loop-again c =
     let b = entry d in
     let g = at-loop d .loop .inv .0 in (
       ⊎-elim
-          (λ (_, t, _, p, _, _, el, ef). rw (el, ef, p .ensures) (with-cause (planSheet (b .args .plan .now)) (b .args .port) (b .args .class) (length (b .args .records .now)) (b .args .list .now) g (is-set (turn d)) (taken-as d (t .given .1))))
-          (λ (_, t, el, ef). rw (el, ef) (with-other (planSheet (b .args .plan .now)) (b .args .port) (b .args .class) (length (b .args .records .now)) (b .args .list .now) g (is-set (turn d)) (taken-as d (t .given .1))))
+          (λ (_, t, _, p, _, _, el, ef). rw (el, ef, p .ensures) (with-cause (planSheet (b .args .plan .now)) (b .args .port) (b .args .class) (length (b .args .records .now)) (b .args .list .now) g (is-set (turn d)) false (taken-as d (t .given .1))))
+          (⊎-elim
+          (λ (_, t, _, p, _, _, el, ef). rw (el, ef, p .ensures) (with-cause (planSheet (b .args .plan .now)) (b .args .port) (b .args .class) (length (b .args .records .now)) (b .args .list .now) g (is-set (turn d)) true (taken-as d (t .given .1))))
+          (λ (_, t, el, ef). rw (el, ef) (with-other (planSheet (b .args .plan .now)) (b .args .port) (b .args .class) (length (b .args .records .now)) (b .args .list .now) g (is-set (turn d)) (taken-as d (t .given .1)))))
           (c .match .came),
       d .take-set .ensures .1 .1,
       records-kept d,
@@ -172,6 +192,11 @@ list-causes-spec =
     put-slot-requires
     add-found
     enum-told-3
+    cast-put-slot-2
+    add-put-slot
+    put-slot-requires-2
+    add-found-2
+    enum-told-4
     add-set
     loop-less
     loop-again

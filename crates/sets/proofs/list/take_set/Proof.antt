@@ -12,17 +12,18 @@ use Rattle.alc.specs.Causes.{withRules}
 use Rattle.plan.specs.Plan.{planSheet}
 use Rattle.plan.proofs.Lines.{rule-count, rules-fit}
 use Rattle.sets.specs.declared.force.Forced.{Forced}
-use Rattle.sets.specs.Sets.{forcedBy}
+use Rattle.sets.specs.Sets.{forcedBy, contradictedBy, markedBy}
 use Rattle.sets.proofs.Listing.{few-sets, lessForces, alone, parts-told, take-part, take-full, take-yes, take-no}
 use Rattle.sets.proofs.list.take_set.Statement.{statement}
 use Rattle.sets.proofs.list.take_set.Tie as tie
 use Rattle.sets.proofs.list.take_set.Reads as reads
 use Rattle.sets.proofs.list.take_set.Lts as lts
 use Rattle.sets.proofs.force.forces.Reads as forces-reads
+use Rattle.sets.proofs.list.mark_set.Reads as mark-set-reads
 use Rattle.sets.proofs.list.part_forces.Reads as part-forces-reads
 
 abbrev calls : lts.Claims
-calls = (part-forces-reads.Asked, part-forces-reads.Learnt, forces-reads.Asked, forces-reads.Learnt)
+calls = (part-forces-reads.Asked, part-forces-reads.Learnt, forces-reads.Asked, forces-reads.Learnt, mark-set-reads.Asked, mark-set-reads.Learnt)
 
 -- the set has a flag
 has-flag : (b : lts.Start calls reads.Pre reads.Post) → b .args .set < 4096
@@ -88,6 +89,12 @@ enum-told-2 c = search needs
 element-write-flags-2 : tie.Need-element-write-flags-2
 element-write-flags-2 c = has-flag (begin (c .before .before .before .before .before .before .before .before .before .before))
 
+mark-set-requires : tie.Need-mark-set-requires
+mark-set-requires c κs =
+    let d = c .before .before .before .before .before .before .before .before in
+    let b = begin (looked d) in
+    (b .pre .0, omega (arith, b .pre .1 .1 .0, d .forces .ensures .1 .0, d .forces .ensures .1 .1))
+
 enum-told-3 : tie.Need-enum-told-3
 enum-told-3 c = search needs
 
@@ -116,10 +123,14 @@ same-length-4 c = search needs
 
 returns-3 : tie.Need-returns-3
 returns-3 c =
-    let d = c .before .before .before .before .before .before in
-    let b = begin (looked d) in (
-      take-yes (planSheet (b .args .plan .now)) (b .args .port) (b .args .class) (length (b .args .records .now)) (b .args .set) (b .args .flags .now) (b .pre .1 .1 .1 .0 .1) (within b) (none d) (verdict d (c .enum-told2 .given .1)),
-      (d .forces .ensures .1, length-set (b .args .flags .now) (b .args .set) true ∙ b .pre .1 .1 .1 .1),
+    let m = c .before .before .before .before in
+    let e = m .before .before .before in
+    let d = e .before .before .before .before .before .before in
+    let b = begin (looked d) in
+    let kept = m .mark-set .ensures .1 in (
+      take-yes (planSheet (b .args .plan .now)) (b .args .port) (b .args .class) (length (b .args .records .now)) (b .args .set) (b .args .flags .now) (b .pre .1 .1 .1 .0 .1) (within b) (none d) (verdict d (e .enum-told2 .given .1))
+          (m .mark-set .ensures .0 ∙ ap (λ (k : ℕ). markedBy (contradictedBy (withRules (planSheet (b .args .plan .now)) (b .args .set)) k)) (d .forces .ensures .1 .0)),
+      ((kept .0 ∙ d .forces .ensures .1 .0, kept .1 ∙ d .forces .ensures .1 .1), length-set (b .args .flags .now) (b .args .set) true ∙ b .pre .1 .1 .1 .1),
     )
 
 same-length-5 : tie.Need-same-length-5
@@ -148,6 +159,7 @@ take-set-spec =
     enum-told
     enum-told-2
     element-write-flags-2
+    mark-set-requires
     enum-told-3
     element-write-flags-3
     same-length
