@@ -63,10 +63,11 @@ enum {
     BARGAINDUNE_UNSATISFIABLE = 12, /* no finite interpretation meets the sheet; carries 0, and the model buffer ends as zeros */
 
     /* `bargaindune_satisfy` and `bargaindune_causes` */
-    BARGAINDUNE_OUT_OF_SPACE = 13, /* the records needed outnumber those lent; carries 0, and the model or list buffer ends as zeros */
+    BARGAINDUNE_OUT_OF_SPACE = 13, /* the records needed outnumber those lent; carries 0, and the model or list buffer ends as zeros. For causes that is
+                                    * so if judging one of the sets, or telling the mark of a listed one, needs more; and it comes before 15 */
 
     /* `bargaindune_causes` */
-    BARGAINDUNE_CAUSES = 14,    /* carries how many causes there are, which stand in the list buffer with zeros behind them */
+    BARGAINDUNE_CAUSES = 14,    /* carries how many causes there are, whose slots stand in the list buffer with zeros behind them */
     BARGAINDUNE_LONG_LIST = 15, /* carries how many causes there are, more than the buffer has slots; it ends as zeros */
 
     /* `bargaindune_write` */
@@ -106,8 +107,18 @@ uint64_t bargaindune_satisfy(
     uint32_t *model, size_t model_length,
     uint64_t *carried);
 
+/* A slot of a cause list: which rules are in the set, rule n worth 2^n, and whether it is marked, which is the top bit.
+ * - Not marked, the set is catching: some finite interpretation meets its rules and the assertions, and each that does has the port in the class.
+ * - Marked, the set is contradictory: none meets its rules and the assertions. Such a set forces everything, whatever is asked. Its rules cannot stand
+ *   beside the assertions, or, where there is no rule in it, the assertions contradict each other: then it is the one slot of the list, 32768.
+ * Where a list has zeros behind its slots, carried tells them apart from a set without rules, slot 0. */
+#define BARGAINDUNE_CONTRADICTORY 0x8000u
+#define BARGAINDUNE_RULES(slot) ((slot) & 0x7fffu)
+#define BARGAINDUNE_IS_CONTRADICTORY(slot) (((slot) & BARGAINDUNE_CONTRADICTORY) != 0)
+
 /* Which smallest sets of rules force the port, an individual's number, into the class, a line's number?
- * Each set takes a slot, rule n worth 2^n; the slots ascend. A sheet that cannot be met forces everything.
+ * Each set takes a slot with its mark; without their marks the slots ascend. A sheet that cannot be met forces everything: of rules that contradict each
+ * other the list has all, as a marked set, or a part of them that catches by itself. So a list without a marked set does not say that the sheet can be met.
  * Answers 1 to 8, 13 to 15. */
 uint64_t bargaindune_causes(
     const uint8_t *sheet, size_t sheet_length,

@@ -1,5 +1,5 @@
 /* The Friday port (docs/FRIDAY.md): its sheet is written from its numbers, and one with a slip is refused. Then: why are dbg_tx and bus_out exempt from
- * timing, what without the wildcard, and can the sheet be met at all? */
+ * timing, what without the wildcard, and can the sheet be met at all? Last the Monday sheet, on which two rules contradict each other. */
 #include "bargaindune.h"
 
 #include <stdio.h>
@@ -7,10 +7,10 @@
 #include <string.h>
 
 /* The sheet has one some line and no only line, so that one record suffices. */
-enum { RECORDS = 1, SLOTS = 4, WORDS = 16, RULES = 4, EXEMPT = 2 };
+enum { RECORDS = 1, SLOTS = 4, WORDS = 16, RULES = 5, EXEMPT = 2, SCAN = 4 };
 
-/* The kinds of lines that the sheet has. */
-enum { NAME = 2, SOME = 6 };
+/* The kinds of lines that the sheets have. */
+enum { NAME = 2, NOT = 3, SOME = 6 };
 
 static const uint16_t friday_numbers[] = {
     5,          /* lines: */
@@ -47,7 +47,19 @@ static const uint16_t no_wildcard_numbers[] = {
     1, 0, 1, 0,
 };
 
-/* And with a slip: rule 0 is struck out, but not counted out. Its last rule is then made of what should be the ports. */
+/* The Monday sheet: dbg_tx carries traffic, and by rule 4 what carries traffic is not test-side. */
+static const uint16_t monday_numbers[] = {
+    7, NAME, 0, NAME, 1, NAME, 2, SOME, 0, 1, NAME, 3,
+    NAME, 4,    /* 5, carries traffic */
+    NOT, 1,     /* 6, not test-side */
+    5, 0, 1, 1, 2, 3, 1, 4, 2,
+    5, 6,       /* what carries traffic is not test-side */
+    2,
+    2, 0, 0, 0, 5,
+    1, 0, 1, 0,
+};
+
+/* The Friday port with a slip: rule 0 is struck out, but not counted out. Its last rule is then made of what should be the ports. */
 static const uint16_t miscounted_numbers[] = {
     5, NAME, 0, NAME, 1, NAME, 2, SOME, 0, 1, NAME, 3,
     4, 1, 2, 3, 1, 4, 2,
@@ -72,7 +84,10 @@ static const char *const rules[RULES] = {
     "what is test-side is exempt",
     "what drives something test-side is test-side",
     "boundary scan is exempt",
+    "what carries traffic is not test-side",
 };
+
+static const char *const classes[] = {"matched by dbg_*", "test-side", "exempt", "driving something test-side", "boundary scan"};
 
 static const char *const ports[] = {"dbg_tx", "bus_out"};
 
@@ -111,24 +126,27 @@ static void judge_numbers(const uint16_t *numbers, size_t count)
         stop(number, carried);
 }
 
-/* A sheet that leaves out the first rules numbers the others from 0 on. */
-static void why(const uint8_t *sheet, size_t length, unsigned left_out, unsigned port)
+/* A sheet that leaves out the first rules numbers the others from 0 on. A marked set says nothing about the port: its rules have to be mended first. */
+static void why(const uint8_t *sheet, size_t length, unsigned left_out, unsigned port, unsigned class_line)
 {
     uint64_t records[RECORDS], carried, number;
     uint8_t marks[RECORDS];
     uint16_t list[SLOTS];
 
-    number = bargaindune_causes(sheet, length, port, EXEMPT, records, RECORDS, marks, RECORDS, list, SLOTS, &carried);
+    number = bargaindune_causes(sheet, length, port, class_line, records, RECORDS, marks, RECORDS, list, SLOTS, &carried);
     if (number != BARGAINDUNE_CAUSES)
         stop(number, carried);
     if (carried == 0) {
-        printf("%s need not be exempt.\n", ports[port]);
+        printf("%s need not be %s.\n", ports[port], classes[class_line]);
         return;
     }
     for (uint64_t i = 0; i < carried; i++) {
-        printf("%s is exempt because\n", ports[port]);
+        if (BARGAINDUNE_IS_CONTRADICTORY(list[i]))
+            printf("Whatever is asked, with what is asserted these cannot all stand:\n");
+        else
+            printf("%s is %s because\n", ports[port], classes[class_line]);
         for (unsigned n = 0; n + left_out < RULES; n++)
-            if (list[i] >> n & 1)
+            if (BARGAINDUNE_RULES(list[i]) >> n & 1)
                 printf("  %s\n", rules[n + left_out]);
     }
 }
@@ -169,7 +187,7 @@ static void room_for(const uint8_t *sheet, size_t length)
 
 int main(void)
 {
-    uint8_t sheet[BARGAINDUNE_MOST_SHEET], without[BARGAINDUNE_MOST_SHEET];
+    uint8_t sheet[BARGAINDUNE_MOST_SHEET], without[BARGAINDUNE_MOST_SHEET], monday[BARGAINDUNE_MOST_SHEET];
 
     printf("The numbers of the Friday port: ");
     judge_numbers(friday_numbers, COUNT(friday_numbers));
@@ -184,11 +202,17 @@ int main(void)
     }
     printf("Written, it is the sheet that was laid out by hand.\n");
 
-    why(sheet, length, 0, 0);
-    why(sheet, length, 0, 1);
+    why(sheet, length, 0, 0, EXEMPT);
+    why(sheet, length, 0, 1, EXEMPT);
     printf("Without the wildcard:\n");
-    why(without, shorter, 1, 0);
+    why(without, shorter, 1, 0, EXEMPT);
     meet(sheet, length);
     room_for(sheet, length);
+
+    printf("On Monday, with a rule more:\n");
+    const size_t longer = write_sheet(monday_numbers, COUNT(monday_numbers), monday);
+    why(monday, longer, 0, 0, EXEMPT);
+    printf("And asked for another class:\n");
+    why(monday, longer, 0, 0, SCAN);
     return 0;
 }

@@ -6,7 +6,8 @@
  * - all buffers in one block with guard bytes around each;
  * - each buffer with its front or its end at a page that cannot be read or written, and guard bytes on the other side.
  * After each call nothing but the buffers may have changed, the buffers have to hold what docs/FORMAT.md says, and the three answers have
- * to agree. Refusals and the balance are compared with a reader of this file's own, and what is written with a writer of its own.
+ * to agree. Refusals and the balance are compared with a reader of this file's own, and what is written with a writer of its own. The marks of causes
+ * are compared with what the engine says about the sheet with these rules alone.
  *
  * This program is built with the address sanitizer. The archive is not, since no compiler of C sees its source: what it does outside the
  * buffers shows in the guard bytes, or ends the program at a guard page.
@@ -108,6 +109,7 @@ struct readout {
     size_t length, at;
     uint64_t number, place; /* of a fault; 0 and the length if there is none */
     unsigned lines, rules, ports, splits, quantifiers;
+    size_t rules_at, ports_at; /* the places of these two counts */
 };
 
 static unsigned number(struct readout *r, unsigned limit, unsigned why)
@@ -155,12 +157,14 @@ static struct readout read_sheet(const uint8_t *bytes, size_t length)
     r.lines = number(&r, 33, 3);
     for (unsigned i = 0; i < r.lines; i++)
         read_line(&r, i);
+    r.rules_at = r.at;
     r.rules = number(&r, 13, 3);
     for (unsigned i = 0; i < r.rules; i++) {
         number(&r, r.lines, 5);
         number(&r, r.lines, 5);
     }
     r.splits += r.rules;
+    r.ports_at = r.at;
     r.ports = number(&r, 9, 3);
     for (unsigned i = number(&r, 17, 3); i > 0; i--) {
         number(&r, r.ports, 5);
@@ -668,16 +672,51 @@ static void expect_model(const struct readout *r, uint64_t words)
     }
 }
 
+/* Can the sheet be met if it has these of its rules alone? With as many records and marks as the list had, since these suffice to tell its marks. */
+static bool met_with(const struct readout *r, unsigned set)
+{
+    static uint8_t sheet[MOST_BYTES];
+    static uint64_t records[MOST_LENGTH];
+    static uint8_t marks[MOST_LENGTH + 100];
+    size_t n = r->rules_at + 1;
+    uint32_t nothing;
+    uint64_t carried;
+    memcpy(sheet, r->bytes, r->rules_at);
+    sheet[r->rules_at] = 0;
+    for (unsigned i = 0; i < r->rules; i++)
+        if (set >> i & 1) {
+            sheet[r->rules_at]++;
+            memcpy(sheet + n, r->bytes + r->rules_at + 1 + 2 * i, 2);
+            n += 2;
+        }
+    memcpy(sheet + n, r->bytes + r->ports_at, r->length - r->ports_at);
+    n += r->length - r->ports_at;
+    const uint64_t answer = bargaindune_satisfy(sheet, n, records, q.records, marks, q.marks, &nothing, 0, &carried);
+    expect(answer == BARGAINDUNE_LONG_MODEL || answer == BARGAINDUNE_UNSATISFIABLE, "whether a cause can be met");
+    return answer == BARGAINDUNE_LONG_MODEL;
+}
+
+/* Causes seen of each sort, and lists that have both. */
+static uint64_t catching, contradictory, both_marks;
+
+/* Rules ascend, the mark aside, no set holds another, and a set is marked exactly if the sheet with its rules alone cannot be met. */
 static void expect_list(const struct readout *r, uint64_t sets)
 {
     const uint16_t *const list = (const uint16_t *)buffers[OUT].at;
+    uint64_t marked = 0;
     expect(sets <= q.out, "a list of that length cannot be there");
     for (uint64_t i = 0; i < sets; i++) {
-        expect(list[i] >> r->rules == 0, "a rule that is not on the sheet");
-        expect(i == 0 || list[i - 1] < list[i], "order of the list");
+        const unsigned rules = BARGAINDUNE_RULES(list[i]);
+        expect(rules >> r->rules == 0, "a rule that is not on the sheet");
+        expect(i == 0 || BARGAINDUNE_RULES(list[i - 1]) < rules, "order of the list");
         for (uint64_t j = 0; j < i; j++)
-            expect((list[j] & list[i]) != list[j], "a cause that holds another");
+            expect((BARGAINDUNE_RULES(list[j]) & rules) != BARGAINDUNE_RULES(list[j]), "a cause that holds another");
+        expect(BARGAINDUNE_IS_CONTRADICTORY(list[i]) != met_with(r, rules), "the mark of a cause");
+        marked += BARGAINDUNE_IS_CONTRADICTORY(list[i]);
     }
+    catching += sets - marked;
+    contradictory += marked;
+    both_marks += marked > 0 && marked < sets;
 }
 
 /* Numbers that make a sheet: its bytes and nothing else, or no byte. */
@@ -814,6 +853,7 @@ int main(int argc, char **argv)
         return 1;
     }
     printf("to be written: up to %zu numbers, sheets of up to %zu bytes\n", most_numbers, longest_sheet);
+    printf("causes: %" PRIu64 " catching, %" PRIu64 " contradictory, %" PRIu64 " lists with both\n", catching, contradictory, both_marks);
     printf("left out as too long: %" PRIu64 " of %" PRIu64 " sheets drawn\n", left_out, drawn);
     printf("seed %" PRIu64 ", questions %" PRIu64 " to %" PRIu64 ", %" PRIu64 " calls in %.0f s, the slowest %.1f ms (question %" PRIu64 "): nothing outside the buffers changed\n",
         seed, first, index_of_question - 1, calls, seconds() - start, 1e3 * slowest, slowest_index);

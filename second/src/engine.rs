@@ -1,6 +1,6 @@
 //! The answers with their numbers and buffers (document 01, "What the desk replies").
 
-use crate::causes::{causes, Causes};
+use crate::causes::{Found, Judge};
 use crate::model;
 use crate::search::{Joints, Meter, Plan};
 use crate::sheet::{read, Refusal, Sheet, MOST_RECORDS};
@@ -37,7 +37,7 @@ pub struct Engine {
     pub meter: Meter,
 }
 
-/// What a sheet asks of its lender: records and result length.
+/// What a question asks of its lender: records and result length.
 #[derive(Clone, Copy, PartialEq, Eq, Debug)]
 pub struct Need {
     pub records: usize,
@@ -74,19 +74,22 @@ impl Engine {
         }
     }
 
-    /// The smallest sets of rules that force the class at the port.
+    /// The smallest sets of rules that force the class at the port, each with its mark. Where one of the judgements
+    /// lacks room the answer is 13, whichever it is.
     pub fn causes(&mut self, bytes: &[u8], port: u64, class: u64, room: u64, marks: u64, out: &mut [u16]) -> Answer {
         let sheet = match lent(room, marks).and_then(|_| read(bytes)).and_then(|sheet| on_sheet(sheet, port, class)) {
             Ok(sheet) => sheet,
             Err(refusal) => return refusal.into(),
         };
         out.fill(0);
-        match self.list(&sheet, port as u8, class as u8, room as usize) {
+        let mut judge = self.judge(room as usize);
+        let smallest = judge.smallest(&sheet, port as u8, class as u8);
+        match smallest.and_then(|smallest| judge.marked(&sheet, &smallest.slots)) {
             Err(_) => Answer::new(13, 0),
-            Ok(Causes { list, .. }) if list.len() > out.len() => Answer::new(15, list.len()),
-            Ok(Causes { list, .. }) => {
-                out[..list.len()].copy_from_slice(&list);
-                Answer::new(14, list.len())
+            Ok(Found { slots, .. }) if slots.len() > out.len() => Answer::new(15, slots.len()),
+            Ok(Found { slots, .. }) => {
+                out[..slots.len()].copy_from_slice(&slots);
+                Answer::new(14, slots.len())
             }
         }
     }
@@ -99,8 +102,19 @@ impl Engine {
 
     /// What a cause question needs.
     pub fn causes_need(&mut self, sheet: &Sheet, port: u8, class: u8) -> Result<Need, Halt> {
-        let causes = self.list(sheet, port, class, usize::MAX)?;
-        Ok(Need { records: causes.need, result: Some(causes.list.len()) })
+        let smallest = self.smallest(sheet, port, class)?;
+        let marked = self.marked(sheet, &smallest.slots)?;
+        Ok(Need { records: smallest.need.max(marked.need), result: Some(marked.slots.len()) })
+    }
+
+    /// The smallest forcing sets, and what judging with "class fails" needs.
+    pub fn smallest(&mut self, sheet: &Sheet, port: u8, class: u8) -> Result<Found, Halt> {
+        self.judge(usize::MAX).smallest(sheet, port, class)
+    }
+
+    /// These sets with their marks, and what judging them without "class fails" needs.
+    pub fn marked(&mut self, sheet: &Sheet, sets: &[u16]) -> Result<Found, Halt> {
+        self.judge(usize::MAX).marked(sheet, sets)
     }
 
     fn model(&mut self, sheet: &Sheet, room: usize) -> Result<Option<Vec<u32>>, Halt> {
@@ -109,8 +123,8 @@ impl Engine {
         Ok(good.map(|joint| model::words(&plan, &self.records, &joint)))
     }
 
-    fn list(&mut self, sheet: &Sheet, port: u8, class: u8, room: usize) -> Result<Causes, Halt> {
-        causes(sheet, port, class, room, &mut self.records, &mut self.joints, &mut self.meter)
+    fn judge(&mut self, room: usize) -> Judge<'_> {
+        Judge { records: &mut self.records, joints: &mut self.joints, meter: &mut self.meter, room }
     }
 }
 

@@ -412,6 +412,57 @@ fn chain(random: &mut Random) -> Sheet {
     sheet
 }
 
+/// Rules by which names force one another, others that cannot stand together, and neighbours asked for, so that lists
+/// have both marks, and judging takes more records once a class need not fail.
+pub fn two_ways(random: &mut Random) -> Sheet {
+    let mut sheet = Sheet::default();
+    let push = |sheet: &mut Sheet, kind: u8, first: u8, second: u8| {
+        sheet.lines.push(Line { kind, first, second });
+        sheet.lines.len() as u8 - 1
+    };
+    let names = random.between(2, 4) as usize;
+    for name in 0..names {
+        push(&mut sheet, NAME, name as u8, 0);
+    }
+    let name = any(random, names);
+    let denied = push(&mut sheet, NOT, name, 0);
+    let mut bad = match random.below(3) {
+        0 => push(&mut sheet, BOTTOM, 0, 0),
+        1 => push(&mut sheet, AND, name, denied),
+        _ => denied,
+    };
+    if random.chance(30) {
+        bad = push(&mut sheet, SOME, any(random, 2), bad);
+    }
+    let mut asking = Vec::new();
+    for _ in 0..random.below(3) {
+        let operand = if random.chance(70) { any(random, names) } else { any(random, sheet.lines.len()) };
+        let kind = random.pick(&[SOME, SOME, ONLY]);
+        asking.push(push(&mut sheet, kind, any(random, 2), operand));
+    }
+    let mut ends = vec![bad, denied];
+    ends.extend(&asking);
+    for _ in 0..random.between(1, 3) {
+        sheet.rules.push((any(random, names), any(random, names)));
+    }
+    for _ in 0..random.between(1, 3) {
+        let at = random.below(sheet.rules.len() as u64 + 1) as usize;
+        let c = if random.chance(80) { any(random, names) } else { any(random, sheet.lines.len()) };
+        sheet.rules.insert(at, (c, random.pick(&ends)));
+    }
+    sheet.individuals = random.between(1, 3) as u8;
+    sheet.classes.push((0, any(random, names)));
+    if !asking.is_empty() && random.chance(60) {
+        sheet.classes.push((any(random, sheet.individuals as usize), random.pick(&asking)));
+    }
+    if random.chance(30) {
+        add_classes(random, &mut sheet, 1);
+    }
+    let roles = random.below(3);
+    add_roles(random, &mut sheet, &Words { names: vec![], roles: vec![0, 1] }, roles);
+    sheet
+}
+
 /// Some and only lines on which rules split, so that many seeds are reached.
 fn many_records(random: &mut Random) -> Sheet {
     let words = Words { names: vec![0, 1], roles: if random.chance(70) { vec![0] } else { vec![0, 1] } };

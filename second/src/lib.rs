@@ -1,6 +1,5 @@
 //! The second program of document 01 ("Pinning every answer down"): an independent engine, plain
-//! and fast, with which the proved one is compared. Written from document 01 (docs/SOURCES.md) and from how
-//! its open points are read (docs/DECISIONS.md) alone.
+//! and fast, with which the proved one is compared. Written from documents 01 and 02 and docs/DECISIONS.md alone.
 
 pub mod causes;
 pub mod desk;

@@ -77,7 +77,7 @@ fn bench_of_models() {
 fn bench_of_causes() {
     assert_eq!(causes(P9, 0, 2, 0, 3), (14, 2, vec![3, 4, 0]));
     assert_eq!(causes(P10, 0, 2, 0, 2), (14, 1, vec![0, 0]));
-    assert_eq!(causes(P11, 0, 3, 1, 1), (14, 1, vec![3]));
+    assert_eq!(causes(P11, 0, 3, 1, 1), (14, 1, vec![32771]));
     assert_eq!(causes(P11, 0, 3, 0, 1), (13, 0, vec![0]));
     assert_eq!(causes(P9_TWO, 1, 2, 0, 2), (14, 0, vec![0, 0]));
 }
@@ -200,10 +200,48 @@ fn answers_13_to_15() {
     assert_eq!(causes(P9_TWO, 1, 2, 0, 0), (14, 0, vec![]));
     // 13 before 15
     assert_eq!(causes(P11, 0, 3, 0, 0), (13, 0, vec![]));
-    // contradictory assertions force everything
-    assert_eq!(causes("02 0200 01 01 0001 01 01 0001 00", 0, 0, 0, 1), (14, 1, vec![0]));
     // a rule written twice gives two sets
     assert_eq!(causes("02 0200 0201 02 0001 0001 01 01 0000 00", 0, 1, 0, 2), (14, 2, vec![1, 2]));
+}
+
+/// Document 02, request 02.
+#[test]
+fn marks() {
+    // contradictory assertions force everything, whatever is asked
+    const BOTTOM_PORT: &str = "02 0200 01 01 0001 01 01 0001 00";
+    for class in [0, 1] {
+        assert_eq!(causes(BOTTOM_PORT, 0, class, 0, 2), (14, 1, vec![32768, 0]));
+    }
+    assert_eq!(causes(BOTTOM_PORT, 0, 0, 0, 0), (15, 1, vec![]));
+    // rules 0 and 1 catch the port, rules 0 and 2 contradict each other: the order is by rules
+    const BOTH: &str = "05 0200 0201 0202 0301 0203 03 0001 0102 0003 01 01 0000 00";
+    assert_eq!(causes(BOTH, 0, 2, 0, 3), (14, 2, vec![3, 32773, 0]));
+    assert_eq!(causes(BOTH, 0, 2, 0, 1), (15, 2, vec![0]));
+    // of a class that no rule speaks of, the contradiction alone
+    assert_eq!(causes(BOTH, 0, 4, 0, 2), (14, 1, vec![32773, 0]));
+    // and not where one of its rules does it by itself
+    assert_eq!(causes(BOTH, 0, 3, 0, 2), (14, 1, vec![4, 0]));
+    // a marked set before one that is not: rules 0 and 1 contradict each other, rule 2 catches
+    const MARKED_FIRST: &str = "04 0200 0201 0202 0301 03 0001 0003 0002 01 01 0000 00";
+    assert_eq!(causes(MARKED_FIRST, 0, 2, 0, 2), (14, 2, vec![32771, 4]));
+    // a contradiction at another port
+    const ELSEWHERE: &str = "03 0200 0201 01 01 0002 02 01 0100 00";
+    assert_eq!(causes(ELSEWHERE, 0, 1, 0, 1), (14, 1, vec![32769]));
+}
+
+/// 13 where only judging a listed set without "class fails" lacks room, and before 15.
+#[test]
+fn room_for_marks() {
+    // the port is in line 0 and in line 1, some 0 0. With "0 fails" it clashes at once, without it there is a seed
+    const ASSERTED: &str = "02 0200 060000 00 01 02 0000 0001 00";
+    assert_eq!(causes(ASSERTED, 0, 0, 0, 1), (13, 0, vec![0]));
+    assert_eq!(causes(ASSERTED, 0, 0, 0, 0), (13, 0, vec![]));
+    assert_eq!(causes(ASSERTED, 0, 0, 1, 0), (15, 1, vec![]));
+    assert_eq!(causes(ASSERTED, 0, 0, 1, 1), (14, 1, vec![0]));
+    // the seed is unsatisfiable: line 1 is bottom
+    const CONTRADICTORY: &str = "03 0200 01 060001 00 01 02 0000 0002 00";
+    assert_eq!(causes(CONTRADICTORY, 0, 0, 0, 1), (13, 0, vec![0]));
+    assert_eq!(causes(CONTRADICTORY, 0, 0, 1, 1), (14, 1, vec![32768]));
 }
 
 #[test]

@@ -206,35 +206,41 @@ impl Plain<'_> {
         words
     }
 
-    /// The cause list and the most records a judged set needs; every proper subset is looked up.
-    fn causes(&mut self, port: u8, class: u8) -> Result<(usize, Vec<u16>), Tired> {
+    /// The cause list with its marks, and the most records that a judgement needs with "class fails", and without;
+    /// every proper subset is looked up, and a set is judged both times before the next one.
+    fn causes(&mut self, port: u8, class: u8) -> Result<(usize, usize, Vec<u16>), Tired> {
         let sets = 1u16 << self.sheet.rules.len();
         let mut forcing = BTreeSet::new();
-        let (mut need, mut list) = (0, Vec::new());
+        let (mut denied, mut alone, mut list) = (0, 0, Vec::new());
         for set in 0..sets {
             let all = self.sheet.rules.iter().enumerate();
             self.rules = all.filter(|(n, _)| set >> n & 1 == 1).map(|(_, &rule)| rule).collect();
             let (records, words) = self.judge(Some((port, (class, false))))?;
             let smallest = (0..set).all(|other| other & set != other || !forcing.contains(&other));
-            if words.is_none() {
-                forcing.insert(set);
-            }
             if smallest {
-                need = need.max(records);
-                list.extend(words.is_none().then_some(set));
+                denied = denied.max(records);
+            }
+            if words.is_some() {
+                continue;
+            }
+            forcing.insert(set);
+            if smallest {
+                let (records, words) = self.judge(None)?;
+                alone = alone.max(records);
+                list.push(if words.is_some() { set } else { 32768 + set });
             }
         }
-        Ok((need, list))
+        Ok((denied, alone, list))
     }
 }
 
-fn plain(sheet: &Sheet) -> Plain<'_> {
-    Plain { sheet, rules: sheet.rules.clone(), fuel: 3_000 }
+fn plain(sheet: &Sheet, fuel: u64) -> Plain<'_> {
+    Plain { sheet, rules: sheet.rules.clone(), fuel }
 }
 
 /// True if the sheet was cheap enough to be compared.
 fn compare_sat(engine: &mut Engine, sheet: &Sheet) -> bool {
-    let Ok((need, words)) = plain(sheet).judge(None) else {
+    let Ok((need, words)) = plain(sheet, 3_000).judge(None) else {
         return false;
     };
     let bytes = form::bytes(&form::numbers(sheet));
@@ -250,10 +256,22 @@ fn compare_sat(engine: &mut Engine, sheet: &Sheet) -> bool {
     true
 }
 
-fn compare_causes(engine: &mut Engine, sheet: &Sheet, port: u8, class: u8) -> bool {
-    let Ok((need, list)) = plain(sheet).causes(port, class) else {
-        return false;
+/// What there is among the cause questions compared.
+#[derive(Default)]
+struct Tally {
+    compared: u32,
+    both_marks: u32,
+    second_alone: u32,
+}
+
+fn compare_causes(engine: &mut Engine, sheet: &Sheet, port: u8, class: u8, tally: &mut Tally) {
+    let Ok((denied, alone, list)) = plain(sheet, 10_000).causes(port, class) else {
+        return;
     };
+    let need = denied.max(alone);
+    tally.compared += 1;
+    tally.both_marks += (list.iter().any(|&slot| slot < 32768) && list.iter().any(|&slot| slot >= 32768)) as u32;
+    tally.second_alone += (denied < alone) as u32;
     let bytes = form::bytes(&form::numbers(sheet));
     let mut out = vec![7; list.len()];
     let answer = engine.causes(&bytes, port as u64, class as u64, need as u64, need as u64, &mut out);
@@ -261,8 +279,10 @@ fn compare_causes(engine: &mut Engine, sheet: &Sheet, port: u8, class: u8) -> bo
     if need > 0 {
         let short = engine.causes(&bytes, port as u64, class as u64, need as u64 - 1, 5000, &mut out);
         assert_eq!(short.number, 13, "{sheet:?} {port} {class}");
+        assert!(out.iter().all(|&slot| slot == 0));
+        let no_slots = engine.causes(&bytes, port as u64, class as u64, need as u64 - 1, 5000, &mut []);
+        assert_eq!(no_slots.number, 13, "{sheet:?} {port} {class}");
     }
-    true
 }
 
 #[test]
@@ -280,14 +300,16 @@ fn models_agree() {
 fn causes_agree() {
     let mut random = Random(12);
     let mut engine = Engine::new();
-    let mut compared = 0;
-    while compared < 300 {
-        let sheet = form::cause_sheet(&mut random);
+    let mut tally = Tally::default();
+    while tally.compared < 2500 {
+        let sheet = if random.chance(50) { form::cause_sheet(&mut random) } else { form::two_ways(&mut random) };
         if sheet.lines.is_empty() || sheet.rules.len() > 7 {
             continue;
         }
         let port = random.below(sheet.individuals as u64) as u8;
         let class = random.below(sheet.lines.len() as u64) as u8;
-        compared += compare_causes(&mut engine, &sheet, port, class) as u32;
+        compare_causes(&mut engine, &sheet, port, class, &mut tally);
     }
+    assert!(tally.both_marks >= 30, "{} lists with both marks", tally.both_marks);
+    assert!(tally.second_alone >= 30, "{} that need more without \"class fails\"", tally.second_alone);
 }

@@ -8,7 +8,7 @@
 //! so threads may ask at once. Every call ends, but some not in a lifetime: see [time](#time).
 //!
 //! ```
-//! use bargaindune::{Desk, Listed, Sheet, Verdict};
+//! use bargaindune::{Cause, Desk, Listed, Sheet, Verdict};
 //!
 //! // three names, each in the next, and the first in the last as well; the port is in the first
 //! let mut sheet = Sheet::new();
@@ -23,7 +23,8 @@
 //! let mut desk = Desk::new();
 //! // rules 0 and 1 together force the port to be exempt, and so does rule 2 alone
 //! let causes = desk.causes(&bytes, port.number(), exempt.number())?;
-//! assert_eq!(causes, Listed::Causes(&[0b011, 0b100]));
+//! let catching = |rules| Cause { rules, contradictory: false };
+//! assert_eq!(causes, Listed::Causes(&[catching(0b011), catching(0b100)]));
 //! // one element, in which the names 0, 1 and 2 are true, and no edge
 //! assert_eq!(desk.satisfy(&bytes)?, Verdict::Model(&[1, 0b111, 0]));
 //! # Ok::<(), Box<dyn std::error::Error>>(())
@@ -249,7 +250,8 @@ pub enum Answer {
     },
     /// 12: no finite interpretation meets the sheet. The model buffer ends as zeros.
     Unsatisfiable,
-    /// 13: the records needed outnumber those lent. The model or list buffer ends as zeros.
+    /// 13: the records needed outnumber those lent. The model or list buffer ends as zeros. For causes that is so if judging one of the sets, or
+    /// telling whether a listed one is contradictory, needs more; and it comes before 15.
     OutOfSpace,
     /// 14: the cause list is written.
     Causes {
@@ -293,6 +295,88 @@ impl Answer {
             Answer::Unsatisfiable | Answer::OutOfSpace => 0,
             Answer::Causes { sets } | Answer::LongList { sets } => sets,
         }
+    }
+}
+
+/// The mark of a contradictory set: the top bit of its slot.
+///
+/// ```
+/// assert_eq!(bargaindune::CONTRADICTORY, 32_768);
+/// ```
+pub const CONTRADICTORY: u16 = 1 << 15;
+
+/// A smallest set of rules that forces a port into a class, as a slot of a cause list has it.
+///
+/// ```
+/// use bargaindune::{Cause, Desk, Listed, Sheet};
+///
+/// // rules 0 and 1 make a debug port exempt; by rules 0 and 2 together it could not be there at all
+/// let mut sheet = Sheet::new();
+/// let (debug, test, exempt, scan) = (sheet.name(0), sheet.name(1), sheet.name(2), sheet.name(3));
+/// let no_test = sheet.not(test);
+/// sheet.rule(debug, test);
+/// sheet.rule(test, exempt);
+/// sheet.rule(debug, no_test);
+/// let port = sheet.port();
+/// sheet.is_in(port, debug);
+/// let bytes = sheet.bytes()?;
+///
+/// let mut desk = Desk::new();
+/// let catching = Cause { rules: 0b011, contradictory: false };
+/// let contradictory = Cause { rules: 0b101, contradictory: true };
+/// assert_eq!(desk.causes(&bytes, port.number(), exempt.number())?, Listed::Causes(&[catching, contradictory]));
+/// // the contradiction is there whatever is asked, and is no reason for a class
+/// assert_eq!(desk.causes(&bytes, port.number(), scan.number())?, Listed::Causes(&[contradictory]));
+/// # Ok::<(), Box<dyn std::error::Error>>(())
+/// ```
+#[derive(Clone, Copy, Debug, PartialEq, Eq, Hash)]
+pub struct Cause {
+    /// The rules of the set, rule n worth 2^n. Of contradictory assertions there is none.
+    pub rules: u16,
+    /// Whether no finite interpretation meets these rules and the assertions. If so, they force everything, and have to be mended before anything is
+    /// blamed on one of them. If not, the set is catching: some interpretation meets it, and each that does has the port in the class.
+    pub contradictory: bool,
+}
+
+impl Cause {
+    /// What a slot of a cause list says.
+    ///
+    /// ```
+    /// use bargaindune::Cause;
+    ///
+    /// assert_eq!(Cause::from_slot(3), Cause { rules: 3, contradictory: false });
+    /// assert_eq!(Cause::from_slot(32_771), Cause { rules: 3, contradictory: true });
+    /// ```
+    pub fn from_slot(slot: u16) -> Cause {
+        Cause {
+            rules: slot & !CONTRADICTORY,
+            contradictory: slot & CONTRADICTORY != 0,
+        }
+    }
+
+    /// The slot that says so.
+    ///
+    /// ```
+    /// use bargaindune::Cause;
+    ///
+    /// assert_eq!(Cause { rules: 0, contradictory: true }.slot(), 32_768);
+    /// assert_eq!(Cause { rules: 5, contradictory: false }.slot(), 5);
+    /// ```
+    pub fn slot(self) -> u16 {
+        let mark = if self.contradictory { CONTRADICTORY } else { 0 };
+        self.rules & !CONTRADICTORY | mark
+    }
+
+    /// The numbers of its rules, ascending.
+    ///
+    /// ```
+    /// use bargaindune::Cause;
+    ///
+    /// assert_eq!(Cause::from_slot(32_773).rule_numbers().collect::<Vec<_>>(), [0, 2]);
+    /// assert_eq!(Cause::from_slot(32_768).rule_numbers().count(), 0);
+    /// ```
+    pub fn rule_numbers(self) -> impl Iterator<Item = u64> {
+        (0..15).filter(move |n| self.rules >> n & 1 == 1)
     }
 }
 
@@ -504,11 +588,12 @@ pub fn satisfy(sheet: &[u8], records: &mut [u64], marks: &mut [u8], model: &mut 
 }
 
 /// Which smallest sets of rules force the port, an individual's number, into the class, a line's number? Each set takes a slot, rule n
-/// worth 2^n; the slots ascend.
+/// worth 2^n, with [`CONTRADICTORY`] added where nothing can meet its rules and the assertions; the rules ascend. [`Cause::from_slot`] takes a slot apart.
 ///
 /// Any lengths may be lent; over 4,096 records, or fewer marks than records, are refused with [`Reason::LentBadly`]. A port or class that
 /// is not on the sheet is refused with [`Reason::OffSheet`]. The answer is never [`Answer::Model`], [`Answer::LongModel`] or
-/// [`Answer::Unsatisfiable`]: a sheet that cannot be met forces everything.
+/// [`Answer::Unsatisfiable`]: a sheet that cannot be met forces everything. Of rules that contradict each other the list has all, as a contradictory set, or
+/// a part of them that catches by itself, so that a list without a contradictory set does not say that the sheet can be met.
 ///
 /// ```
 /// use bargaindune::{causes, Answer};
@@ -519,6 +604,10 @@ pub fn satisfy(sheet: &[u8], records: &mut [u64], marks: &mut [u8], model: &mut 
 /// assert_eq!(answer, Answer::Causes { sets: 2 });
 /// assert_eq!(list, [3, 4, 0]);
 /// assert_eq!(causes(&sheet, 0, 2, &mut [], &mut [], &mut []), Answer::LongList { sets: 2 });
+/// // one port, which is in line 1, bottom: the assertions contradict each other
+/// let sheet = [2, 2, 0, 1, 0, 1, 1, 0, 1, 0];
+/// assert_eq!(causes(&sheet, 0, 0, &mut [], &mut [], &mut list), Answer::Causes { sets: 1 });
+/// assert_eq!(list, [32_768, 0, 0]);
 /// ```
 pub fn causes(
     sheet: &[u8],
@@ -609,9 +698,9 @@ pub enum Verdict<'a> {
 /// ```
 #[derive(Clone, Copy, Debug, PartialEq, Eq, Hash)]
 pub enum Listed<'a> {
-    /// The smallest sets of rules that force the port into the class, rule n worth 2^n, ascending.
-    Causes(&'a [u16]),
-    /// Some set of rules that has to be judged needs over 4,096 records.
+    /// The smallest sets of rules that force the port into the class, ascending by their rules.
+    Causes(&'a [Cause]),
+    /// Judging some set of rules, or telling whether a listed one is contradictory, needs over 4,096 records.
     OutOfSpace,
 }
 
@@ -629,6 +718,7 @@ pub struct Desk {
     marks: Vec<u8>,
     model: Vec<u32>,
     list: Vec<u16>,
+    causes: Vec<Cause>,
 }
 
 impl Desk {
@@ -644,6 +734,7 @@ impl Desk {
             marks: vec![0; MOST_RECORDS],
             model: vec![0; 64],
             list: vec![0; MOST_SLOTS],
+            causes: Vec::new(),
         }
     }
 
@@ -676,7 +767,7 @@ impl Desk {
         satisfy(sheet, &mut self.records, &mut self.marks, &mut self.model)
     }
 
-    /// Which smallest sets of rules force the port into the class? All of them: the list buffer has a slot for every set.
+    /// Which smallest sets of rules force the port into the class? All of them, catching and contradictory: the list buffer has a slot for every set.
     ///
     /// ```
     /// use bargaindune::{Desk, Reason};
@@ -696,7 +787,12 @@ impl Desk {
         );
         match answer {
             Answer::Refused(refusal) => Err(refusal),
-            Answer::Causes { sets } => Ok(Listed::Causes(&self.list[..sets])),
+            Answer::Causes { sets } => {
+                let slots = self.list[..sets].iter();
+                self.causes.clear();
+                self.causes.extend(slots.copied().map(Cause::from_slot));
+                Ok(Listed::Causes(&self.causes))
+            }
             Answer::OutOfSpace => Ok(Listed::OutOfSpace),
             _ => strange(answer.number(), answer.carries() as u64),
         }

@@ -1,5 +1,5 @@
 //! Sheets that are built by name and written by the engine.
-use crate::{strange, write, Refusal, Written, MOST_SHEET};
+use crate::{strange, write, Cause, Refusal, Written, MOST_SHEET};
 use std::fmt;
 
 /// A line of a [`Sheet`]: a class.
@@ -36,7 +36,7 @@ impl Rule {
         self.0.into()
     }
 
-    /// Is the rule in this set, as a cause list has it, rule n worth 2^n?
+    /// Is the rule in this set?
     ///
     /// ```
     /// use bargaindune::{Desk, Listed, Sheet};
@@ -55,9 +55,8 @@ impl Rule {
     /// assert!(wildcard.is_in(cause) && !unrelated.is_in(cause));
     /// # Ok::<(), Box<dyn std::error::Error>>(())
     /// ```
-    pub fn is_in(self, set: u16) -> bool {
-        set.checked_shr(self.0.into())
-            .is_some_and(|from_this_on| from_this_on & 1 == 1)
+    pub fn is_in(self, cause: Cause) -> bool {
+        cause.rule_numbers().any(|rule| rule == self.number())
     }
 }
 

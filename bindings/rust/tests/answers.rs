@@ -1,5 +1,7 @@
 //! Every answer number, over the bench sheets and the faults of docs/FORMAT.md; and what every buffer ends as.
-use bargaindune::{balance, causes, satisfy, Answer, Desk, Listed, Reason, Refusal, Verdict};
+use bargaindune::{
+    balance, causes, satisfy, Answer, Cause, Desk, Listed, Reason, Refusal, Verdict, CONTRADICTORY,
+};
 
 // The bench. P4 to P11 are laid out by hand from what the bench says of them.
 const P1: &str = "00 00 00 00 00";
@@ -15,6 +17,12 @@ const P9: &str = "03 02 00 02 01 02 02 03 00 01 01 02 00 02 01 01 00 00 00";
 const P9_TWO_PORTS: &str = "03 02 00 02 01 02 02 03 00 01 01 02 00 02 02 01 00 00 00";
 const P10: &str = "03 02 00 02 01 02 02 03 00 01 01 02 00 02 01 02 00 00 00 02 00";
 const P11: &str = "04 02 00 02 01 06 00 01 01 02 00 02 01 03 01 01 00 00 00";
+// Name 0 and bottom; rule 0 ⊑ bottom; the port is in bottom.
+const CONTRADICTORY_ASSERTIONS: &str = "02 02 00 01 01 00 01 01 01 00 01 00";
+// Names 0 to 3 and not 1; rules 0 ⊑ 1, 1 ⊑ 2, 0 ⊑ not 1; the port is in line 0. Rules 0 and 1 force class 2, and rules 0 and 2 cannot both stand.
+const BOTH_MARKS: &str = "05 02 00 02 01 02 02 02 03 03 01 03 00 01 01 02 00 04 01 01 00 00 00";
+// The port is in line 0 and in line 1, some 0 0: with "0 fails" it clashes at once, without it there is a neighbour.
+const NEIGHBOUR: &str = "02 02 00 06 00 00 00 01 02 00 00 00 01 00";
 
 // What stands in the buffers before a question.
 const RECORD: u64 = 0xa5a5_a5a5_a5a5_a5a5;
@@ -267,21 +275,27 @@ fn thirteen_out_of_space() {
         assert_eq!((answer.number(), answer.carries()), (13, 0));
         assert_eq!(model, [0; 6]);
     }
-    // before 15: rule 0 alone asks for a neighbour
-    for slots in [0, 4] {
-        let (answer, list) = list_of(&hex(P11), 0, 3, 0, 1, slots);
-        assert_eq!(answer, Answer::OutOfSpace);
-        assert_eq!(list, vec![0; slots]);
+    // before 15: rule 0 alone asks for a neighbour, and telling the mark of a listed set takes a record
+    for (text, class) in [(P11, 3), (NEIGHBOUR, 0)] {
+        for slots in [0, 4] {
+            let (answer, list) = list_of(&hex(text), 0, class, 0, 1, slots);
+            assert_eq!(answer, Answer::OutOfSpace, "{text}");
+            assert_eq!(list, vec![0; slots]);
+        }
     }
 }
 
 #[test]
 fn fourteen_causes() {
-    let bench: [(&str, u64, u64, usize, &[u16]); 4] = [
+    let bench: [(&str, u64, u64, usize, &[u16]); 8] = [
         (P9, 0, 2, 0, &[3, 4]),
         (P10, 0, 2, 0, &[0]),
-        (P11, 0, 3, 1, &[3]),
+        (P11, 0, 3, 1, &[32_771]),
         (P9_TWO_PORTS, 1, 2, 0, &[]),
+        (CONTRADICTORY_ASSERTIONS, 0, 0, 0, &[32_768]),
+        (BOTH_MARKS, 0, 2, 0, &[3, 32_773]),
+        (BOTH_MARKS, 0, 3, 0, &[32_773]),
+        (NEIGHBOUR, 0, 0, 1, &[0]),
     ];
     for (text, port, class, lent, sets) in bench {
         for (spare, more) in [(0, 0), (5, 3)] {
@@ -308,11 +322,26 @@ fn fifteen_long_list() {
         (P9, 2, 0, 2, 1),
         (P10, 2, 0, 1, 0),
         (P11, 3, 1, 1, 0),
+        (BOTH_MARKS, 2, 0, 2, 1),
     ] {
         let (answer, list) = list_of(&hex(text), 0, class, lent, lent, slots);
         assert_eq!(answer, Answer::LongList { sets }, "{text}");
         assert_eq!((answer.number(), answer.carries()), (15, sets));
         assert_eq!(list, vec![0; slots]);
+    }
+}
+
+#[test]
+fn slots_and_causes() {
+    for slot in 0..=u16::MAX {
+        let cause = Cause::from_slot(slot);
+        assert_eq!(cause.slot(), slot);
+        assert_eq!(cause.contradictory, slot >= CONTRADICTORY);
+        assert_eq!(cause.rules, slot % CONTRADICTORY);
+        assert_eq!(
+            cause.rule_numbers().map(|n| 1 << n).sum::<u16>(),
+            cause.rules
+        );
     }
 }
 
@@ -342,8 +371,19 @@ fn desk_keeps_no_trace() {
             Ok(Verdict::Model(&[3, 0, 1, 2, 2, 0, 0, 1, 0, 0, 2]))
         );
         assert_eq!(desk.satisfy(&hex(P11)), Ok(Verdict::Unsatisfiable));
-        assert_eq!(desk.causes(&hex(P9), 0, 2), Ok(Listed::Causes(&[3, 4])));
-        assert_eq!(desk.causes(&hex(P11), 0, 3), Ok(Listed::Causes(&[3])));
+        for (text, class, slots) in [
+            (P9, 2, &[3, 4][..]),
+            (P10, 2, &[0]),
+            (P11, 3, &[32_771]),
+            (CONTRADICTORY_ASSERTIONS, 0, &[32_768]),
+            (BOTH_MARKS, 2, &[3, 32_773]),
+        ] {
+            let causes: Vec<Cause> = slots.iter().copied().map(Cause::from_slot).collect();
+            assert_eq!(
+                desk.causes(&hex(text), 0, class),
+                Ok(Listed::Causes(&causes))
+            );
+        }
         assert_eq!(
             desk.satisfy(&hex("21")),
             Err(Refusal {

@@ -1,6 +1,6 @@
 //! The writer: every limit at and over, lists that are too short or too long, large numbers, short buffers; and sheets that are built by name.
 use bargaindune::{
-    balance, write, Fault, Item, Line, Port, Reason, Refusal, Sheet, Written, MOST_SHEET,
+    balance, write, Cause, Fault, Item, Line, Port, Reason, Refusal, Sheet, Written, MOST_SHEET,
 };
 
 /// What stands in the buffer before.
@@ -455,10 +455,12 @@ fn rules_in_sets() {
     let mut sheet = friday();
     let line = sheet.top();
     let fifth = sheet.rule(line, line);
-    assert!(fifth.is_in(1 << 4) && fifth.is_in(u16::MAX) && !fifth.is_in(!(1 << 4)));
-    // no set has a rule of a number that no sheet has
-    for _ in 5..16 {
+    let of = |slot| Cause::from_slot(slot);
+    assert!(fifth.is_in(of(1 << 4)) && fifth.is_in(of(u16::MAX)) && !fifth.is_in(of(!(1 << 4))));
+    // no set has a rule of a number that no sheet has, and the mark is no rule
+    for _ in 5..15 {
         sheet.rule(line, line);
     }
-    assert!(!sheet.rule(line, line).is_in(u16::MAX));
+    assert!(!sheet.rule(line, line).is_in(of(u16::MAX)));
+    assert!(!sheet.rule(line, line).is_in(of(u16::MAX)));
 }

@@ -1,12 +1,14 @@
-//! `generate N SEED [write] [--count]` prints N questions for the desk (see desk.rs), the same for the same seed: the
-//! three kinds of document 01, all answer numbers of its table, with rooms and buffers just too small, exact and
-//! larger. With `write`, questions to the writer instead. `--count` tells on standard error how often the second
-//! engine gives each answer.
+//! `generate N SEED [write | causes] [--count]` prints N questions for the desk (see desk.rs), the same for the same
+//! seed: the three kinds of document 01, all answer numbers of its table, with rooms and buffers just too small, exact
+//! and larger. With `write`, questions to the writer instead; with `causes`, questions for cause lists alone, aimed at
+//! their marks and at what judging takes with "class fails" and without. `--count` tells on standard error how often
+//! the second engine gives each answer, and of cause lists which marks they have and which judgement lacks room.
 //!
 //! Most questions aim at one answer number; the engine itself says what a sheet needs. Sheets whose search goes
 //! beyond a budget of steps are thrown away, so that every question stays cheap. How many that were of how many
 //! searched is told on standard error.
 
+use second::causes::{Found, CONTRADICTORY};
 use second::desk::Desk;
 use second::engine::{Engine, Need};
 use second::form::{self, Sort};
@@ -76,7 +78,25 @@ struct Query {
     sheet: Sheet,
     port: u64,
     class: u64,
+    /// with "class fails"
     need: Need,
+    /// the list with its marks, and what judging it without "class fails" needs
+    marked: Found,
+}
+
+impl Query {
+    /// What both judgements need.
+    fn records(&self) -> usize {
+        self.need.records.max(self.marked.need)
+    }
+
+    fn has_contradictory(&self) -> bool {
+        self.marked.slots.iter().any(|slot| slot & CONTRADICTORY != 0)
+    }
+
+    fn has_catching(&self) -> bool {
+        self.marked.slots.iter().any(|slot| slot & CONTRADICTORY == 0)
+    }
 }
 
 fn main() -> io::Result<()> {
@@ -88,6 +108,7 @@ fn main() -> io::Result<()> {
             Ok(number) => numbers.push(number),
             Err(_) if word == "--count" => count = true,
             Err(_) if word == "write" => ask = Generator::write_question,
+            Err(_) if word == "causes" => ask = Generator::marked_question,
             Err(_) => return usage(),
         }
     }
@@ -98,14 +119,14 @@ fn main() -> io::Result<()> {
 }
 
 fn usage() -> io::Result<()> {
-    eprintln!("generate N SEED [write] [--count]");
+    eprintln!("generate N SEED [write | causes] [--count]");
     std::process::exit(2)
 }
 
 fn generate(many: u64, seed: u64, ask: fn(&mut Generator) -> String, count: bool) -> io::Result<()> {
     let mut generator = Generator { random: Random(seed), engine: Engine::new(), searched: 0, left_out: 0 };
     let mut output = BufWriter::new(io::stdout().lock());
-    let mut counter = Counter { desk: Desk::new(), counts: BTreeMap::new() };
+    let mut counter = Counter { desk: Desk::new(), engine: Engine::new(), counts: BTreeMap::new() };
     for _ in 0..many {
         let question = ask(&mut generator);
         if count {
@@ -115,7 +136,7 @@ fn generate(many: u64, seed: u64, ask: fn(&mut Generator) -> String, count: bool
     }
     output.flush()?;
     for (name, number) in &counter.counts {
-        eprintln!("{name:<14} {number:>6}");
+        eprintln!("{name:<44} {number:>6}");
     }
     let Generator { searched, left_out, .. } = generator;
     if searched > 0 {
@@ -126,6 +147,7 @@ fn generate(many: u64, seed: u64, ask: fn(&mut Generator) -> String, count: bool
 
 struct Counter {
     desk: Desk,
+    engine: Engine,
     counts: BTreeMap<String, u64>,
 }
 
@@ -138,7 +160,36 @@ impl Counter {
         let first = answer.split_whitespace().next().unwrap_or("");
         *self.counts.entry(format!("{first:>5} {verb}")).or_default() += 1;
         *self.counts.entry(format!("{first:>5} all")).or_default() += 1;
+        if verb == "causes" && ["13", "14", "15"].contains(&first) {
+            let sort = self.cause_sort(question, first);
+            *self.counts.entry(format!("{first:>5} causes, {sort}")).or_default() += 1;
+        }
     }
+
+    /// The marks of a list, or which judgement lacks room.
+    fn cause_sort(&mut self, question: &str, first: &str) -> &'static str {
+        let words: Vec<&str> = question.split(' ').collect();
+        let number = |at: usize| words[at].parse::<usize>().expect("a question in order");
+        let sheet = read(&unhex(words[1])).expect("a sheet in order");
+        let smallest = self.engine.smallest(&sheet, number(2) as u8, number(3) as u8).expect("no budget is set");
+        let marked = self.engine.marked(&sheet, &smallest.slots).expect("no budget is set");
+        let contradictory = marked.slots.iter().filter(|&slot| slot & CONTRADICTORY != 0).count();
+        match first {
+            "13" if marked.need <= number(4) => "with \"class fails\" alone",
+            "13" if smallest.need <= number(4) => "without \"class fails\" alone",
+            "13" => "with \"class fails\" and without",
+            _ if marked.slots.is_empty() => "none listed",
+            _ if marked.slots == [CONTRADICTORY] => "the assertions contradictory",
+            _ if contradictory == 0 => "all catching",
+            _ if contradictory == marked.slots.len() => "all contradictory",
+            _ => "both marks in one list",
+        }
+    }
+}
+
+fn unhex(digits: &str) -> Vec<u8> {
+    let pairs = (0..digits.len() / 2).map(|at| u8::from_str_radix(&digits[2 * at..2 * at + 2], 16));
+    pairs.collect::<Result<_, _>>().unwrap_or_default()
 }
 
 fn hex(bytes: &[u8]) -> String {
@@ -184,14 +235,19 @@ impl Generator {
 
     /// A cause query within the budget and as wanted.
     fn query(&mut self, wanted: fn(Need) -> bool) -> Query {
+        self.query_of(form::cause_sheet, |query| wanted(query.need))
+    }
+
+    /// The same of sheets of another sort, and judged by the marks too. Where there is none, the last that is cheap.
+    fn query_of(&mut self, make: fn(&mut Random) -> Sheet, wanted: impl Fn(&Query) -> bool) -> Query {
         let mut last = None;
         for _ in 0..400 {
-            let sheet = form::cause_sheet(&mut self.random);
+            let sheet = make(&mut self.random);
             let port = self.random.below(sheet.individuals as u64);
             let class = self.random.below(sheet.lines.len().max(1) as u64);
-            if let Some(need) = self.causes_need(&sheet, port, class) {
-                let query = Query { sheet, port, class, need };
-                if wanted(need) {
+            if let Some((need, marked)) = self.causes_need(&sheet, port, class) {
+                let query = Query { sheet, port, class, need, marked };
+                if wanted(&query) {
                     return query;
                 }
                 last = Some(query);
@@ -211,19 +267,27 @@ impl Generator {
         self.engine.meter.budget = BUDGET;
     }
 
-    fn counted(&mut self, need: Result<Need, Halt>) -> Option<Need> {
+    fn counted<T>(&mut self, need: Result<T, Halt>) -> Option<T> {
         self.searched += 1;
         self.left_out += need.is_err() as u64;
         need.ok()
     }
 
-    fn causes_need(&mut self, sheet: &Sheet, port: u64, class: u64) -> Option<Need> {
+    fn causes_need(&mut self, sheet: &Sheet, port: u64, class: u64) -> Option<(Need, Found)> {
         if port >= sheet.individuals as u64 || class >= sheet.lines.len() as u64 {
             return None;
         }
+        let both = self.both_judgements(sheet, port as u8, class as u8);
+        self.counted(both)
+    }
+
+    /// With "class fails" and without, each within the budget.
+    fn both_judgements(&mut self, sheet: &Sheet, port: u8, class: u8) -> Result<(Need, Found), Halt> {
         self.start_meter();
-        let need = self.engine.causes_need(sheet, port as u8, class as u8);
-        self.counted(need)
+        let smallest = self.engine.smallest(sheet, port, class)?;
+        self.start_meter();
+        let marked = self.engine.marked(sheet, &smallest.slots)?;
+        Ok((Need { records: smallest.need, result: Some(smallest.slots.len()) }, marked))
     }
 
     /// A room in which the need fits: exact, one more, some more, or all there may be.
@@ -345,6 +409,83 @@ impl Generator {
         let room = self.room_for(query.need.records);
         let slots = if fits || length == 0 { self.long_enough(length) } else { self.too_short(length) };
         self.causes_question(&query, room, slots.min(4096))
+    }
+
+    /// Questions for cause lists alone.
+    fn marked_question(&mut self) -> String {
+        match self.random.below(40) {
+            0..=8 => self.marked_list(|query| query.has_catching() && query.has_contradictory()),
+            9..=11 => self.marked_list(|query| query.has_contradictory()),
+            12..=13 => self.marked_list(|query| query.marked.slots == [CONTRADICTORY]),
+            14..=16 => self.marked_list(|query| query.marked.slots.len() > 1),
+            17..=18 => self.marked_list(|query| query.records() > 0 && query.has_catching()),
+            19..=20 => self.marked_list(|_| true),
+            21..=26 => self.marks_out_of_space(|query| query.need.records < query.marked.need),
+            27..=29 => self.marks_out_of_space(|query| query.need.records > query.marked.need),
+            30..=31 => self.marks_out_of_space(|query| query.need.records > 0 && query.marked.need > 0),
+            32..=34 => self.marks_out_of_space(|query| query.need.records != query.marked.need),
+            35..=36 => self.off_the_sheet(),
+            37 => self.wrong_loan_of_causes(),
+            _ => self.damaged_causes(),
+        }
+    }
+
+    fn marking_sheet(&mut self) -> fn(&mut Random) -> Sheet {
+        if self.random.chance(75) {
+            form::two_ways
+        } else {
+            form::cause_sheet
+        }
+    }
+
+    /// Answers 14 and 15.
+    fn marked_list(&mut self, wanted: fn(&Query) -> bool) -> String {
+        let make = self.marking_sheet();
+        let query = self.query_of(make, wanted);
+        let length = query.marked.slots.len();
+        let room = self.room_for(query.records());
+        let short = length > 0 && self.random.chance(25);
+        let slots = if short { self.too_short(length) } else { self.long_enough(length) };
+        self.causes_question(&query, room, slots)
+    }
+
+    /// Room for the judgement that needs less and not for the other, or for neither; slots enough or too few.
+    fn marks_out_of_space(&mut self, wanted: fn(&Query) -> bool) -> String {
+        let make = self.marking_sheet();
+        let query = self.query_of(make, wanted);
+        let (less, more) = (query.need.records.min(query.marked.need), query.records());
+        let room = match self.random.below(8) {
+            _ if more == 0 => 0,
+            0..=1 => less as u64,
+            2..=4 => more as u64 - 1,
+            5 => self.random.below(more as u64),
+            6 => self.random.between(less as u64, more as u64),
+            _ => less.saturating_sub(1) as u64,
+        };
+        let slots = self.random.below(query.marked.slots.len() as u64 + 3);
+        self.causes_question(&query, room.min(4096), slots)
+    }
+
+    fn wrong_loan_of_causes(&mut self) -> String {
+        let query = self.query_of(form::two_ways, |_| true);
+        let room = self.random.between(1, 4200);
+        let marks = if room > 4096 { room } else { self.random.below(room) };
+        format!("causes {} {} {} {room} {marks} 2", hex(&bytes(&query.sheet)), query.port, query.class)
+    }
+
+    /// Sheets damaged or cut, in order or not, with small loans.
+    fn damaged_causes(&mut self) -> String {
+        for _ in 0..400 {
+            let sheet = form::two_ways(&mut self.random);
+            let whole = form::damage(&mut self.random, &sheet);
+            let (port, class) = (self.random.below(3), self.random.below(8));
+            let (room, slots) = (self.random.below(4), self.random.below(5));
+            let question = format!("causes {} {port} {class} {room} {} {slots}", hex(&whole), self.marks_for(room));
+            if self.is_cheap(&question, &whole) {
+                return question;
+            }
+        }
+        "causes - 0 0 0 0 0".to_string()
     }
 
     /// Answer 7, with other things wrong as well.
