@@ -1,4 +1,4 @@
-//! The bench of document 01, the witnesses of WITNESSES.md, every answer number, and the desk's own limits.
+//! The bench of document 01, sheets that tell readings apart (docs/DECISIONS.md), every answer number, and the desk's own limits.
 
 use second::desk::Desk;
 use second::engine::{Answer, Engine};
