@@ -34,6 +34,8 @@ impl Desk {
 
     /// Puts the line of answer behind `out`; nothing for a blank line or a remark.
     pub fn answer(&mut self, line: &[u8], out: &mut Vec<u8>) {
+        let line = line.strip_suffix(b"\n").unwrap_or(line);
+        let line = line.strip_suffix(b"\r").unwrap_or(line);
         let mut words = line.split(|&byte| is_blank(byte)).filter(|word| !word.is_empty());
         let Some(verb) = words.next() else {
             return;
@@ -119,9 +121,9 @@ impl Desk {
     }
 }
 
-/// A line's own end is blank too.
+/// What stands between words; a carriage return belongs to the line's end, and is no blank elsewhere.
 fn is_blank(byte: u8) -> bool {
-    matches!(byte, b' ' | b'\t' | b'\r' | b'\n')
+    matches!(byte, b' ' | b'\t')
 }
 
 fn digit(character: u8) -> Option<u8> {

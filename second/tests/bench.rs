@@ -258,7 +258,7 @@ fn balances() {
 }
 
 /// Sheet, records needed, answer, words.
-const WITNESSES: &[(&str, u64, u8, &[u32])] = &[
+const APART: &[(&str, u64, u8, &[u32])] = &[
     ("0400000200050201010300000000", 0, 10, &[1, 0, 0]),
     ("03020002000700010102000201010100", 1, 10, &[3, 0, 1, 0, 3, 0, 0, 2, 1, 0, 2, 2, 0, 2]),
     ("0702000201050100030003030607020707040001020005000600", 1, 10, &[2, 0, 3, 1, 0, 7, 1]),
@@ -304,7 +304,7 @@ const WITNESSES: &[(&str, u64, u8, &[u32])] = &[
 
 #[test]
 fn witnesses() {
-    for &(hex, need, number, words) in WITNESSES {
+    for &(hex, need, number, words) in APART {
         assert_eq!(sat(hex, need, words.len()), (number, words.len() as u64, words.to_vec()), "{hex}");
         if need > 0 {
             assert_eq!(sat(hex, need - 1, words.len()), (13, 0, vec![0; words.len()]), "{hex}");

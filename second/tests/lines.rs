@@ -44,3 +44,11 @@ fn the_largest_number_of_64_bits_is_a_room() {
     assert_eq!(answer("balance 0000000000 18446744073709551615"), "7 0\n");
     assert_eq!(answer("balance 0000000000 18446744073709551616"), "what?\n");
 }
+
+/// A carriage return is no blank: one at the line's end belongs to the end, and any other is in no word.
+#[test]
+fn carriage_returns_elsewhere_are_not_understood() {
+    for line in ["sat\r0000000000 0 0 3\n", "sat 0000000000 0 0 3\r\r\n", "sat 0000000000 0\r 0 3\n"] {
+        assert_eq!(answer(line), "what?\n", "{line:?}");
+    }
+}
