@@ -3,9 +3,11 @@ pub mod Bits
 pub mod Lists
 pub mod Sorted
 pub mod Counting
+pub mod Members
 pub mod Sheet
 pub mod Meaning
 pub mod Label
+pub mod Masks
 pub mod Moves
 pub mod Steps
 pub mod Settle

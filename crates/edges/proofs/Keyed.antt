@@ -12,7 +12,7 @@ use lib.Seq.{slice, slice-cons, slice-empty, take-suc, take-suc-set, take-take, 
 use lib.Dec.{ltb, leb, eqb}
 use lib.Bits.{bitAnd, bitOr}
 use borrow.Author.Tests.{leb-true, le-leb, ltb-true, ltb-false, eqb-true, eqb-false, lt-ltb, le-ltb, eq-eqb, ne-eqb}
-use Rattle.alc.specs.Bits.{bit}
+use Rattle.alc.specs.Bits.{bit, members}
 use Rattle.alc.specs.Lists.{_∈_, Ascending, Distinct, any, each, upTo}
 use Rattle.alc.specs.Sheet.{Line, top, bottom, name, not, and, or, some, only, RoleAssertion, Sheet, count, line, lineInLimits, inLimits, roleCount}
 use Rattle.alc.specs.declared.Label.{Label}
@@ -22,6 +22,7 @@ use Rattle.alc.specs.Settle.{Joint, label}
 use Rattle.alc.specs.Seeds.{Ask, asksOf, asks, same}
 use Rattle.alc.specs.Model.{leads, asserted}
 use Rattle.alc.specs.Theorems.Lists.{cases, and-left, and-right, and-both, or-left, or-right, or-cases, here, there, cond-elim, cond-intro, any-intro, any-elim, each-intro, each-elim, upTo-elim, filter-length, length-from, getD-in}
+use Rattle.alc.specs.Theorems.Members.{members-none, Inside, lowest-of, rest-of, rest-members, rest-each, rest-inside}
 use Rattle.alc.specs.Theorems.Sheet.{WellFormed, well-formed, lines-limited, roles-limited}
 use Rattle.alc.specs.Theorems.Moves.{label-of}
 use Rattle.alc.specs.Theorems.Seeds.{same-true, same-refl}
@@ -33,9 +34,7 @@ use Rattle.seeds.specs.Asks.{askedOf, askedAt}
 use Rattle.tableau.specs.Records.{wordOf, recorded, placeFrom, foundAt}
 use Rattle.tableau.specs.Joints.{assertionAt}
 use Rattle.edges.specs.Keys.{SeedsIn, keyOf, keysOf, insertKey, insertKeys, askKey, keysAsked, RoleBelow, keysAlong, edgeOf, edgesFrom}
-use Rattle.plan.proofs.Members.{members, members-none}
 use Rattle.tableau.proofs.Roles.{role-count, role-is, role-in, roles-fit}
-use Rattle.plan.proofs.Walking.{Inside, lowest-of, rest-of, rest-members, rest-each, rest-inside}
 use Rattle.tableau.proofs.Buffers.{length-recorded, record-at, found-label, in-found, distinct-place, asking, asking-inside, asks-all}
 
 -- ---- one key more

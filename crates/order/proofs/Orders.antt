@@ -12,6 +12,7 @@ use lib.Bits.{bitAnd, bitOr}
 use borrow.Author.Tests.{eq-eqb, ne-eqb, lt-ltb, le-ltb}
 use native.Mathlib.Numerals.{add-one}
 use native.Mathlib.Omega.{arith}
+use Rattle.alc.specs.Bits.{members}
 use Rattle.alc.specs.Lists.{_∈_, Distinct, Maybe, nothing, just, each, first}
 use Rattle.alc.specs.Sheet.{Sheet, count}
 use Rattle.alc.specs.declared.Label.{Label}
@@ -27,6 +28,7 @@ use Rattle.alc.specs.Theorems.Counting.{pigeon}
 use Rattle.alc.specs.Theorems.Bound.{length-universe}
 use Rattle.alc.specs.Theorems.Sheet.{WellFormed}
 use Rattle.alc.specs.Theorems.Decides.{chosen-next}
+use Rattle.alc.specs.Theorems.Members.{members-none, Inside, lowest-of, rest-of, rest-each, rest-inside}
 use Rattle.tableau.specs.Records.{wordOf, labelOf, recorded, foundAt}
 use Rattle.plan.specs.Plan.{planSheet, Prepared}
 use Rattle.tableau.specs.Joints.{jointOf}
@@ -37,8 +39,6 @@ use Rattle.order.specs.Sound.{Sound, exchanged, Shuffled}
 use Rattle.tableau.specs.declared.joint.Labels.{Labels}
 use Rattle.tableau.specs.declared.walks.Picked.{Picked}
 use Rattle.tableau.specs.declared.walks.Picked.the-variants.{Nothing as none, Found as picked}
-use Rattle.plan.proofs.Members.{members, members-none}
-use Rattle.plan.proofs.Walking.{Inside, lowest-of, rest-of, rest-each, rest-inside}
 use Rattle.tableau.proofs.Buffers.{distinct-place, found-label, in-found, seedsAt, asking-inside, seeds-asked}
 use Rattle.engine.proofs.Ledgers.{recorded-at, length-recorded, recorded-in, standing-in, stand-fine}
 use Rattle.engine.proofs.Strikes.{joint-at}

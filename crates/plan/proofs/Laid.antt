@@ -9,20 +9,21 @@ use native.Mathlib.Omega.{arith}
 use lib.Dec.{ltb, eqb}
 use lib.ListN.{length, getD, set, length-map, length-set, List·getD-map, List·getD-eq-default}
 use lib.Seq.{getD-set-same, getD-set-other}
-use borrow.Author.Tests.{ltb-true, lt-ltb, ne-eqb}
+use borrow.Author.Tests.{ltb-true, lt-ltb, le-ltb, ne-eqb}
 use Rattle.alc.specs.Bits.{bit, put}
 use Rattle.alc.specs.Lists.{upTo}
 use Rattle.alc.specs.Sheet.{Line, top, bottom, name, not, and, or, some, only, Sheet, count, line, operandsBelow, wellFormed, inLimits}
 use Rattle.alc.specs.Label.{sameName, isName}
 use Rattle.alc.specs.Seeds.{isQuantified}
 use Rattle.alc.specs.Theorems.Bits.{bit-put, bit-put-other, bit-none}
+use Rattle.alc.specs.Theorems.Masks.{nameless}
 use Rattle.alc.specs.Theorems.Lists.{clashing, and-left, and-right, and-both, same?, length-from, map-from, map-same}
 use Rattle.alc.specs.Theorems.Sheet.{well-formed}
 use Rattle.sheet.specs.declared.Section.{Section}
 use Rattle.sheet.specs.declared.Sheet.{Sheet as Form}
 use Rattle.sheet.specs.Form.{Triple, triple, lineFrom, lineOf, ruleOf, classOf, roleOf, triples, sheetOf}
 use Rattle.plan.specs.Plan.{entryFrom, entriesFrom, planSheet, isWorking, operandSet, Prepared}
-use Rattle.plan.specs.Laid.{putIf, RowLaid, entryOf, Stands, SectionLaid, AllStand, Unmarked, Pending, Ready, LineDone}
+use Rattle.plan.specs.Laid.{putIf, RowLaid, entryOf, Stands, SectionLaid, AllStand, Unmarked, Pending, Ready, LineDone, Grouped, MasksLaid}
 
 -- ---- rows
 -- the turn of the loop over a row
@@ -152,16 +153,6 @@ pub line-none : (p : List ℕ) (i : ℕ) → getD p 384 0 ≤ i → line (planSh
 unfolding planSheet
 line-none p i h = List·getD-eq-default (map lineOf (entriesFrom p 0 384)) top (omega (arith, count-is p))
 
-same-none : (c : Line) → sameName c top ≡ false
-same-none top = refl
-same-none bottom = refl
-same-none (name a) = refl
-same-none (not i) = refl
-same-none (and i j) = refl
-same-none (or i j) = refl
-same-none (some r i) = refl
-same-none (only r i) = refl
-
 -- ---- kinds
 -- no line of another kind is a name
 pub name-other : (a k c d : ℕ) → (k ≡ 2 → ⊥) → isName a (lineFrom k c d) ≡ false
@@ -241,31 +232,46 @@ bit-if-other : (b : Bool) (s i k : ℕ) → (i ≡ k → ⊥) → bit (putIf b s
 bit-if-other true s i k ne = bit-put-other s i k ne
 bit-if-other false s i k ne = refl
 
--- the lines below n with the name of line i
-pub record Twins (p : List ℕ) (i n t : ℕ) : Type 0 where
-  pub member : (k : ℕ) → k < n → bit t k ≡ sameName (line (planSheet p) i) (line (planSheet p) k)
+-- a set that a loop over the lines fills: below n its members are those that pass q, and none is behind
+pub record FilledTo (q : ℕ → Bool) (n t : ℕ) : Type 0 where
+  pub member : (k : ℕ) → k < n → bit t k ≡ q k
   pub behind : (k : ℕ) → n ≤ k → bit t k ≡ false
 
-pub twins-none : (p : List ℕ) (i : ℕ) → Twins p i 0 0
-twins-none p i = record { member = λ k b. absurd (omega arith); behind = λ k b. bit-none k }
+pub filled-none : (q : ℕ → Bool) → FilledTo q 0 0
+filled-none q = record { member = λ k b. absurd (omega arith); behind = λ k b. bit-none k }
 
-pub twins-more : (p : List ℕ) (i n t : ℕ) (b : Bool) → i < getD p 384 0 → n < getD p 384 0
-    → b ≡ sameName (lineFrom (getD p i 0) (getD p (32 + i) 0) (getD p (64 + i) 0)) (lineFrom (getD p n 0) (getD p (32 + n) 0) (getD p (64 + n) 0)) → Twins p i n t → Twins p i (n + 1) (putIf b t n)
-twins-more p i n t b h g e m =
-    let e′ : b ≡ sameName (line (planSheet p) i) (line (planSheet p) n) = rw (line-at p i h, line-at p n g) e in
-    record {
-      member = λ k l.
-          ⊎-elim
-          (λ (d : k ≡ n). rw d (bit-if b t n (m .behind n (omega arith)) ∙ e′))
-          (λ d. bit-if-other b t n k (λ g. d (sym g)) ∙ m .member k (omega arith))
-          (same? k n);
-      behind = λ k l. bit-if-other b t n k (λ g. omega arith) ∙ m .behind k (omega arith);
-    }
+pub filled-more : (q : ℕ → Bool) (n t : ℕ) (b : Bool) → b ≡ q n → FilledTo q n t → FilledTo q (n + 1) (putIf b t n)
+filled-more q n t b e m = record {
+  member = λ k l.
+      ⊎-elim
+      (λ (d : k ≡ n). rw d (bit-if b t n (m .behind n (omega arith)) ∙ e))
+      (λ d. bit-if-other b t n k (λ g. d (sym g)) ∙ m .member k (omega arith))
+      (same? k n);
+  behind = λ k l. bit-if-other b t n k (λ g. omega arith) ∙ m .behind k (omega arith);
+}
 
--- none stands behind the last line
-pub twins-all : (p : List ℕ) (i n t : ℕ) → getD p 384 0 ≤ n → Twins p i n t → (j : ℕ) → bit t j ≡ sameName (line (planSheet p) i) (line (planSheet p) j)
-twins-all p i n t h m j =
-    elim (decLt j n) [ yes b ↦ m .member j b | no b ↦ m .behind j (omega arith) ∙ sym (ap (sameName (line (planSheet p) i)) (line-none p j (omega arith)) ∙ same-none (line (planSheet p) i)) ]
+-- once all lines are passed
+pub filled-all : (q : ℕ → Bool) (n c t : ℕ) → n ≤ c → c ≤ n → FilledTo q n t → (j : ℕ) → bit t j ≡ (ltb j c && q j)
+filled-all q n c t up low m j =
+    elim (decLt j c) [
+      | yes b ↦ m .member j (omega arith) ∙ sym (ap (λ (x : Bool). x && q j) (lt-ltb j c b))
+      | no b ↦ m .behind j (omega arith) ∙ sym (ap (λ (x : Bool). x && q j) (le-ltb j c (omega arith)))
+    ]
+
+-- two lines of the sheet have one name, by their words
+pub same-at : (p : List ℕ) (i n : ℕ) (b : Bool) → i < getD p 384 0 → n < getD p 384 0
+    → b ≡ sameName (lineFrom (getD p i 0) (getD p (32 + i) 0) (getD p (64 + i) 0)) (lineFrom (getD p n 0) (getD p (32 + n) 0) (getD p (64 + n) 0))
+    → b ≡ sameName (line (planSheet p) i) (line (planSheet p) n)
+same-at p i n b h g e = rw (line-at p i h, line-at p n g) e
+
+-- the line behind the last has no name
+pub named-all : (p : List ℕ) (i n t : ℕ) → getD p 384 0 ≤ n → FilledTo (λ j. sameName (line (planSheet p) i) (line (planSheet p) j)) n t
+    → (j : ℕ) → bit t j ≡ sameName (line (planSheet p) i) (line (planSheet p) j)
+named-all p i n t h m j =
+    elim (decLt j n) [
+      | yes b ↦ m .member j b
+      | no b ↦ m .behind j (omega arith) ∙ sym (ap (sameName (line (planSheet p) i)) (line-none p j (omega arith)) ∙ nameless (line (planSheet p) i))
+    ]
 
 -- ---- preparing a line
 one-more : (a i n : ℕ) → i ≤ n → ltb a i ≡ true → ltb a n ≡ true
@@ -290,38 +296,38 @@ operands-fit i p h =
     rw (line-at p i (h .inside)) at
     (below-more (line (planSheet p) i) i 32 (omega (arith, h .few, h .inside)) (well-formed (planSheet p) (h .well) .operands i (omega (arith, count-is p, h .inside))))
 
-module _ (i : ℕ) (p : List ℕ) (size : length p ≡ 456) (pending : Pending i p) (w a o t : ℕ) where
+module _ (i : ℕ) (p : List ℕ) (size : length p ≡ 460) (pending : Pending i p) (w a o t : ℕ) where
   -- a plan after the four writes
   abbrev made : List ℕ
-  made = set (set (set (set p 389 w) 390 a) (392 + i) o) (424 + i) t
+  made = set (set (set (set p 389 w) 390 a) (392 + i) o) (428 + i) t
 
-  other : (j : ℕ) → (j ≡ 389 → ⊥) → (j ≡ 390 → ⊥) → (j ≡ 392 + i → ⊥) → (j ≡ 424 + i → ⊥) → getD made j 0 ≡ getD p j 0
+  other : (j : ℕ) → (j ≡ 389 → ⊥) → (j ≡ 390 → ⊥) → (j ≡ 392 + i → ⊥) → (j ≡ 428 + i → ⊥) → getD made j 0 ≡ getD p j 0
   other j e f g h =
-      getD-set-other (set (set (set p 389 w) 390 a) (392 + i) o) (424 + i) j t 0 h
+      getD-set-other (set (set (set p 389 w) 390 a) (392 + i) o) (428 + i) j t 0 h
       ∙ getD-set-other (set (set p 389 w) 390 a) (392 + i) j o 0 g
       ∙ getD-set-other (set p 389 w) 390 j a 0 f
       ∙ getD-set-other p 389 j w 0 e
 
   at-working : getD made 389 0 ≡ w
   at-working =
-      getD-set-other (set (set (set p 389 w) 390 a) (392 + i) o) (424 + i) 389 t 0 (λ g. omega arith)
+      getD-set-other (set (set (set p 389 w) 390 a) (392 + i) o) (428 + i) 389 t 0 (λ g. omega arith)
       ∙ getD-set-other (set (set p 389 w) 390 a) (392 + i) 389 o 0 (λ g. omega arith)
       ∙ getD-set-other (set p 389 w) 390 389 a 0 (λ g. omega arith)
       ∙ getD-set-same p 389 w 0 (omega arith)
 
   at-asking : getD made 390 0 ≡ a
   at-asking =
-      getD-set-other (set (set (set p 389 w) 390 a) (392 + i) o) (424 + i) 390 t 0 (λ g. omega arith)
+      getD-set-other (set (set (set p 389 w) 390 a) (392 + i) o) (428 + i) 390 t 0 (λ g. omega arith)
       ∙ getD-set-other (set (set p 389 w) 390 a) (392 + i) 390 o 0 (λ g. omega arith)
       ∙ getD-set-same (set p 389 w) 390 a 0 (simp length-set (omega arith))
 
   at-operands : getD made (392 + i) 0 ≡ o
   at-operands =
-      getD-set-other (set (set (set p 389 w) 390 a) (392 + i) o) (424 + i) (392 + i) t 0 (λ g. omega arith)
+      getD-set-other (set (set (set p 389 w) 390 a) (392 + i) o) (428 + i) (392 + i) t 0 (λ g. omega arith)
       ∙ getD-set-same (set (set p 389 w) 390 a) (392 + i) o 0 (simp length-set (omega (arith, pending .few, pending .inside)))
 
-  at-twins : getD made (424 + i) 0 ≡ t
-  at-twins = getD-set-same (set (set (set p 389 w) 390 a) (392 + i) o) (424 + i) t 0 (simp length-set (omega (arith, pending .few, pending .inside)))
+  at-group : getD made (428 + i) 0 ≡ t
+  at-group = getD-set-same (set (set (set p 389 w) 390 a) (392 + i) o) (428 + i) t 0 (simp length-set (omega (arith, pending .few, pending .inside)))
 
   -- the four words of a line
   pub line-done : o ≡ operandSet (lineFrom (getD p i 0) (getD p (32 + i) 0) (getD p (64 + i) 0)) → w ≡ putIf (flip (eqb o 0)) (getD p 389 0) i → a ≡ putIf (ltb 5 (getD p i 0)) (getD p 390 0) i
@@ -338,7 +344,7 @@ module _ (i : ℕ) (p : List ℕ) (size : length p ≡ 456) (pending : Pending i
               ap (λ (x : ℕ). bit x i) (at-asking ∙ ea) ∙ bit-if (ltb 5 (getD p i 0)) (getD p 390 0) i (pending .unmarked .1)
               ∙ asking-kind (getD p i 0) (getD p (32 + i) 0) (getD p (64 + i) 0) ∙ sym (ap isQuantified words);
           operands = at-operands ∙ eo′;
-          twins = λ j. ap (λ (x : ℕ). bit x j) at-twins ∙ et j;
+          group = λ j. ap (λ (x : ℕ). bit x j) at-group ∙ et j;
         };
         kept = λ j b. other j (λ g. omega arith) (λ g. omega arith) (λ g. omega arith) (λ g. omega arith);
         marks = λ k ne. (
@@ -348,7 +354,7 @@ module _ (i : ℕ) (p : List ℕ) (size : length p ≡ 456) (pending : Pending i
         words = λ k b ne.
             let small : i < 32 = omega (arith, pending .few, pending .inside) in (
               other (392 + k) (λ g. omega arith) (λ g. omega arith) (λ g. ne (omega arith)) (λ g. omega arith),
-              other (424 + k) (λ g. omega arith) (λ g. omega arith) (λ g. omega arith) (λ g. ne (omega arith)),
+              other (428 + k) (λ g. omega arith) (λ g. omega arith) (λ g. omega arith) (λ g. ne (omega arith)),
             );
       }
 
@@ -390,7 +396,7 @@ module _ (s : Form) (p : List ℕ) (stand : AllStand s p) (well : wellFormed (sh
               working = m .0 ∙ old .working;
               asking = m .1 ∙ old .asking;
               operands = w .0 ∙ old .operands;
-              twins = λ j. ap (λ (x : ℕ). bit x j) (w .1) ∙ old .twins j;
+              group = λ j. ap (λ (x : ℕ). bit x j) (w .1) ∙ old .group j;
             })
             (same? k n);
         rest = λ k b.
@@ -399,18 +405,33 @@ module _ (s : Form) (p : List ℕ) (stand : AllStand s p) (well : wellFormed (sh
             (m .0 ∙ old .0, m .1 ∙ old .1);
       }
 
-  pub finished : (n : ℕ) (q : List ℕ) → PreparedTo p n q → getD q 384 0 ≤ n → Prepared q × (planSheet q ≡ sheetOf s)
-  finished n q t h =
-      let is : planSheet q ≡ sheetOf s = said n q t in
-      let same : planSheet p ≡ planSheet q = all-said stand limited ∙ sym is in
-      let ready : (k : ℕ) → k < n → Ready (planSheet q) q k = λ k b. subst (λ (x : Sheet). Ready x q k) same (t .done k b) in (
-        record {
-          well = rw is well;
-          limited = rw is limited;
-          working = λ k. elim (decLt k n) [ yes b ↦ ready k b .working | no b ↦ t .rest k (omega arith) .0 ∙ sym (ap isWorking (line-none q k (omega arith))) ];
-          asking = λ k. elim (decLt k n) [ yes b ↦ ready k b .asking | no b ↦ t .rest k (omega arith) .1 ∙ sym (ap isQuantified (line-none q k (omega arith))) ];
-          operands = λ k b. ready k (omega (arith, count-is q)) .operands;
-          twins = λ k j b. ready k (omega (arith, count-is q)) .twins j;
-        },
-        is,
-      )
+  module _ (n : ℕ) (q : List ℕ) (t : PreparedTo p n q) (all : getD q 384 0 ≤ n) where
+    ready : (k : ℕ) → k < n → Ready (planSheet q) q k
+    ready k b = subst (λ (x : Sheet). Ready x q k) (all-said stand limited ∙ sym (said n q t)) (t .done k b)
+
+    pub grouped : Grouped q
+    grouped = record { few = few n q t; groups = λ i j b. ready i (omega (arith, count-is q)) .group j }
+
+    -- the masks last
+    pub finished : (r : List ℕ) → MasksLaid q r → Prepared r × (planSheet r ≡ sheetOf s)
+    finished r laid =
+        let is : planSheet r ≡ sheetOf s = all-said (all-kept r stand (λ j b. laid .kept j (omega arith) ∙ t .kept j b)) limited in
+        let same : planSheet r ≡ planSheet q = is ∙ sym (said n q t) in
+        let none : (k : ℕ) → n ≤ k → line (planSheet q) k ≡ top = λ k b. line-none q k (omega arith) in
+        let working : (k : ℕ) → bit (getD q 389 0) k ≡ isWorking (line (planSheet q) k) =
+        λ k. elim (decLt k n) [ yes b ↦ ready k b .working | no b ↦ t .rest k (omega arith) .0 ∙ sym (ap isWorking (none k (omega arith))) ] in
+        let asking : (k : ℕ) → bit (getD q 390 0) k ≡ isQuantified (line (planSheet q) k) =
+        λ k. elim (decLt k n) [ yes b ↦ ready k b .asking | no b ↦ t .rest k (omega arith) .1 ∙ sym (ap isQuantified (none k (omega arith))) ] in
+        let operands : (k : ℕ) → k < count (planSheet q) → getD q (392 + k) 0 ≡ operandSet (line (planSheet q) k) =
+        λ k b. ready k (omega (arith, count-is q)) .operands in
+        let small : count (planSheet q) ≤ 32 = omega (arith, few n q t, count-is q) in (
+          record {
+            well = rw is well;
+            limited = rw is limited;
+            working = λ k. rw (laid .kept 389 (omega arith), same) (working k);
+            asking = λ k. rw (laid .kept 390 (omega arith), same) (asking k);
+            operands = λ k b. let b′ : k < count (planSheet q) = rw same at b in rw (laid .kept (392 + k) (omega arith), same) (operands k b′);
+            masks = rw same (laid .masks);
+          },
+          is,
+        )

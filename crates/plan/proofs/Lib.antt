@@ -1,4 +1,4 @@
 pub mod Laid
-pub mod Members
+pub mod Masks
 pub mod Lines
 pub mod Walking

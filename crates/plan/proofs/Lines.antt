@@ -1,29 +1,26 @@
--- What a plan says of its sheet, by the numbers that stand in it; what sets of lines have in common, and where a line clashes, by sets. Assumes nothing.
-use Prim.Native.Nat.{ℕ, zero, suc, _+_, _/_, _%_, _^_, _≤_, _<_, min}
-use mathlib.Core.Bool.{Bool, true, false, not as flip, _&&_, _||_, true≢false, cond}
+-- What a plan says of its sheet, by the numbers that stand in it; sets of lines within others. Assumes nothing.
+use Prim.Native.Nat.{ℕ, zero, suc, _+_, _/_, _%_, _^_, _≤_, _<_}
+use mathlib.Core.Bool.{Bool, true, false, _&&_, _||_, true≢false}
 use mathlib.Core.Path.{_≡_, refl, sym, _∙_, ap}
 use mathlib.Core.Logic.{⊎-elim}
 use mathlib.Core.List.{List, [], _∷_, map, map-map}
-use native.Mathlib.Nat.{pow-succ', zero-add}
+use native.Mathlib.Nat.{zero-add}
 use native.Mathlib.Decide.{decLt}
 use native.Mathlib.Omega.{arith}
-use lib.ListN.{length, getD, length-map, List·getD-eq-default}
+use lib.ListN.{length, getD, length-map}
 use lib.Dec.{eqb, ltb}
-use lib.Bits.{bitAnd, bitOr, and-step}
-use lib.Count.{trailingZeros}
-use borrow.Author.Tests.{ltb-true, eqb-true, eqb-false, eq-eqb, ne-eqb, lt-ltb, le-ltb, not-true}
+use lib.Bits.{bitOr}
+use borrow.Author.Tests.{ltb-true, eqb-true, eq-eqb, ne-eqb, lt-ltb, le-ltb}
 use Rattle.alc.specs.Bits.{bit, put}
-use Rattle.alc.specs.Lists.{_∈_, any, all, upTo}
+use Rattle.alc.specs.Lists.{_∈_, all, upTo}
 use Rattle.alc.specs.Sheet.{Line, top, bottom, name, not, and, or, some, only, Rule, _⊑_, count, line, operandsBelow, inLimits, mostLines, mostRules}
-use Rattle.alc.specs.declared.Label.{Label}
-use Rattle.alc.specs.Label.{every, whenHolds, whenFails, clashesAt, sameName, isTop, isBottom}
+use Rattle.alc.specs.Label.{every, whenHolds, whenFails, isTop, isBottom}
 use Rattle.alc.specs.Seeds.{isQuantified}
-use Rattle.alc.specs.Theorems.Bits.{bit-zero, bit-suc, bit-none, bit-put, bit-put-other, bit-or, bit-ext}
-use Rattle.alc.specs.Theorems.Lists.{clashing, tests-same, and-left, and-right, and-both, and-false-left, and-false-right, or-right, any-intro, any-elim, upTo-intro, length-from, map-from, getD-in, same?}
+use Rattle.alc.specs.Theorems.Bits.{bit-put, bit-put-other, bit-or, bit-ext}
+use Rattle.alc.specs.Theorems.Lists.{tests-same, and-left, and-right, and-both, and-false-left, and-false-right, or-right, length-from, map-from, getD-in, same?}
 use Rattle.alc.specs.Theorems.Sheet.{well-formed}
 use Rattle.sheet.specs.Form.{lineFrom, lineOf, ruleOf}
 use Rattle.plan.specs.Plan.{entryFrom, planSheet, isWorking, operandSet, Prepared}
-use Rattle.plan.proofs.Members.{lowest}
 
 -- ---- kinds
 -- what a line is tested for is a test of its kind
@@ -166,46 +163,8 @@ pub bit-clear : (s i : ℕ) → (s / 2 ^ i % 2 ≡ 1 → ⊥) → bit s i ≡ fa
 unfolding bit
 bit-clear s i e = ne-eqb (s / 2 ^ i % 2) 1 e
 
--- the machine's `&` is the intersection
-test-min : (a b : ℕ) → a < 2 → b < 2 → eqb (min a b) 1 ≡ (eqb a 1 && eqb b 1)
-test-min a b p q =
-    tests-same (eqb (min a b) 1) (eqb a 1 && eqb b 1)
-    (λ e. let m : min a b ≡ 1 = eqb-true (min a b) 1 e in and-both (eqb a 1) (eqb b 1) (eq-eqb a 1 (omega arith)) (eq-eqb b 1 (omega arith)))
-    (λ e. eq-eqb (min a b) 1 (omega (arith, eqb-true a 1 (and-left (eqb a 1) (eqb b 1) e), eqb-true b 1 (and-right (eqb a 1) (eqb b 1) e))))
-
-pub bit-and : (s t i : ℕ) → bit (bitAnd s t) i ≡ (bit s i && bit t i)
-bit-and s t zero =
-    let low : bitAnd s t % 2 ≡ min (s % 2) (t % 2) = omega (arith, and-step s t) in
-    rw (bit-zero (bitAnd s t), bit-zero s, bit-zero t, low) (test-min (s % 2) (t % 2) (omega arith) (omega arith))
-bit-and s t (suc i) =
-    let half : bitAnd s t / 2 ≡ bitAnd (s / 2) (t / 2) = omega (arith, and-step s t) in
-    rw (bit-suc (bitAnd s t) i, bit-suc s i, bit-suc t i, half) (bit-and (s / 2) (t / 2) i)
-
-under-power : (n : ℕ) → n < 2 ^ n
-under-power zero = omega arith
-under-power (suc n) = omega (arith, under-power n, pow-succ' 2 n)
-
--- whether two sets have a member in common, where the members of the first are those that pass q, all below n
-common-member : (s t n : ℕ) (q : ℕ → Bool) → ((j : ℕ) → bit s j ≡ q j) → ((j : ℕ) → n ≤ j → q j ≡ false)
-    → flip (eqb (bitAnd s t) 0) ≡ any (λ j. bit t j && q j) (upTo n)
-common-member s t n q is small =
-    tests-same (flip (eqb (bitAnd s t) 0)) (any (λ j. bit t j && q j) (upTo n))
-    (λ e.
-    let some-left : bitAnd s t ≡ 0 → ⊥ = eqb-false (bitAnd s t) 0 (not-true (eqb (bitAnd s t) 0) e) in
-    let j = trailingZeros (bitAnd s t) (bitAnd s t) in
-    let m : (bit s j && bit t j) ≡ true = sym (bit-and s t j) ∙ lowest (bitAnd s t) (bitAnd s t) (omega arith) (under-power (bitAnd s t)) .member in
-    let p : q j ≡ true = sym (is j) ∙ and-left (bit s j) (bit t j) m in
-    elim (decLt j n) [
-      | yes b ↦ any-intro (λ j. bit t j && q j) (upTo n) (upTo-intro n j b) (and-both (bit t j) (q j) (and-right (bit s j) (bit t j) m) p)
-      | no b ↦ clashing (q j) p (small j (omega arith))
-    ])
-    (λ e.
-    let (j, _, m) = any-elim (λ j. bit t j && q j) (upTo n) e in
-    let both : bit (bitAnd s t) j ≡ true = bit-and s t j ∙ and-both (bit s j) (bit t j) (is j ∙ and-right (bit t j) (q j) m) (and-left (bit t j) (q j) m) in
-    ap flip (ne-eqb (bitAnd s t) 0 (λ z. clashing (bit (bitAnd s t) j) both (ap (λ (x : ℕ). bit x j) z ∙ bit-none j))))
-
 -- s joined to h adds nothing exactly where h has all of s
-within : (h s : ℕ) → eqb (bitOr h s) h ≡ true → (j : ℕ) → bit s j ≡ true → bit h j ≡ true
+pub within : (h s : ℕ) → eqb (bitOr h s) h ≡ true → (j : ℕ) → bit s j ≡ true → bit h j ≡ true
 within h s e j m = ap (λ (x : ℕ). bit x j) (sym (eqb-true (bitOr h s) h e)) ∙ bit-or h s j ∙ or-right (bit h j) (bit s j) m
 
 or-absorbed : (a b : Bool) → (b ≡ true → a ≡ true) → (a || b) ≡ a
@@ -213,7 +172,7 @@ or-absorbed true b k = refl
 or-absorbed false true k = sym (k refl)
 or-absorbed false false k = refl
 
-absorbs : (h s : ℕ) → ((j : ℕ) → bit s j ≡ true → bit h j ≡ true) → eqb (bitOr h s) h ≡ true
+pub absorbs : (h s : ℕ) → ((j : ℕ) → bit s j ≡ true → bit h j ≡ true) → eqb (bitOr h s) h ≡ true
 absorbs h s k = eq-eqb (bitOr h s) h (bit-ext (bitOr h s) h (λ j. bit-or h s j ∙ or-absorbed (bit h j) (bit s j) (k j)))
 
 absorbs-put : (h s i : ℕ) → eqb (bitOr h (put s i)) h ≡ (eqb (bitOr h s) h && bit h i)
@@ -232,7 +191,7 @@ abbrev pub putAll : ℕ → List ℕ → ℕ
 putAll s [] = s
 putAll s (i ∷ is) = putAll (put s i) is
 
-and-true : (a : Bool) → (a && true) ≡ a
+pub and-true : (a : Bool) → (a && true) ≡ a
 and-true true = refl
 and-true false = refl
 
@@ -244,40 +203,3 @@ pub absorbs-all : (h : ℕ) (is : List ℕ) (s : ℕ) → eqb (bitOr h (putAll s
 absorbs-all h [] s = sym (and-true (eqb (bitOr h s) h))
 absorbs-all h (i ∷ is) s =
     absorbs-all h is (put s i) ∙ ap (λ (b : Bool). b && all (bit h) is) (absorbs-put h s i) ∙ and-assoc (eqb (bitOr h s) h) (bit h i) (all (bit h) is)
-
--- ---- clashes
--- the definition's four tests in the code's order
-in-order : (h f bot tip twin : Bool) → (h && bot || f && tip || h && f || h && twin) ≡ cond h (bot || (f || twin)) (f && tip)
-in-order true f true tip twin = refl
-in-order true true false true twin = refl
-in-order true true false false twin = refl
-in-order true false false tip twin = refl
-in-order false true bot true twin = refl
-in-order false true bot false twin = refl
-in-order false false bot tip twin = refl
-
-twinless : (c : Line) → sameName c top ≡ false
-twinless top = refl
-twinless bottom = refl
-twinless (name a) = refl
-twinless (not i) = refl
-twinless (and i j) = refl
-twinless (or i j) = refl
-twinless (some r i) = refl
-twinless (only r i) = refl
-
--- the clash test of a line by the plan
-abbrev pub ByPlan : List ℕ → Label → ℕ → Type 0
-ByPlan p l i =
-    clashesAt (planSheet p) l i
-    ≡ cond (bit (l .holding) i) (eqb (getD p i 0) 1 || (bit (l .failing) i || flip (eqb (bitAnd (getD p (424 + i) 0) (l .failing)) 0))) (bit (l .failing) i && eqb (getD p i 0) 0)
-
-pub clash-by-plan : {p : List ℕ} → Prepared p → (l : Label) (i : ℕ) → i < count (planSheet p) → ByPlan p l i
-unfolding clashesAt
-clash-by-plan {p} h l i b =
-    let s = planSheet p in
-    let is : line s i ≡ lineAt p i = line-is p i b in
-    let (is-top, is-bottom, _, _) = by-kind (getD p i 0) (getD p (32 + i) 0) (getD p (64 + i) 0) in
-    let twins = common-member (getD p (424 + i) 0) (l .failing) (count s) (λ j. sameName (line s i) (line s j)) (λ j. h .twins i j b)
-    (λ j k. rw (List·getD-eq-default (s .lines) top k) (twinless (line s i))) in
-    rw (twins, ← is-top, ← is-bottom, ← is) (in-order (bit (l .holding) i) (bit (l .failing) i) (isBottom (line s i)) (isTop (line s i)) _)

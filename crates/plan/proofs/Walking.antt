@@ -1,73 +1,22 @@
--- Walking over the lines of a set, the lowest first: what every such loop keeps, and the set of the lines that have a mark and pass a test. Assumes nothing.
-use Prim.Native.Nat.{ℕ, zero, suc, _+_, _-_, _*_, _%_, _^_, _≤_, _<_}
+-- Walking over the lines of a set: that it is a walk over all lines, and the set of the lines that have a mark and pass a test. Assumes nothing.
+use Prim.Native.Nat.{ℕ, zero, suc, _+_, _-_, _^_, _≤_, _<_}
 use mathlib.Core.Bool.{Bool, true, false, _&&_, _||_}
 use mathlib.Core.Path.{_≡_, refl, sym, _∙_, ap, ap₂}
 use mathlib.Core.Logic.{⊎-elim}
-use mathlib.Core.List.{List, [], _∷_, _++_}
+use mathlib.Core.List.{List, [], _∷_}
 use native.Mathlib.Omega.{arith}
-use native.Mathlib.Nat.{one-mul}
 use native.Mathlib.Decide.{decLt}
-use lib.Dec.{lit<}
-use lib.Pow.{shl-exact, pow-pos}
 use lib.Bits.{bitOr, bitAnd, or-lt, and-le-l}
 use lib.ListN.{List·getD-eq-default}
-use lib.Count.{trailingZeros}
-use Rattle.alc.specs.Bits.{bit}
+use Rattle.alc.specs.Bits.{bit, members}
 use Rattle.alc.specs.Lists.{filter, each, from, upTo}
 use Rattle.alc.specs.Sheet.{Line, top, Sheet, count, line}
 use Rattle.alc.specs.declared.Label.{Label}
 use Rattle.alc.specs.declared.Mark.the-variants.{Holds as holds, Fails as fails}
 use Rattle.alc.specs.Label.{has}
-use Rattle.alc.specs.Theorems.Bits.{bit-or, bit-le, bit-without, bit-without-other}
-use Rattle.alc.specs.Theorems.Lists.{filter-step, upTo-elim, same?, cases, clashing, and-right}
-use Rattle.plan.proofs.Lines.{bit-and}
-use Rattle.plan.proofs.Members.{members, Lowest, lowest, members-step, each-filter}
-
--- ---- walking over the lines of a set, the lowest first: a set of lines of a sheet with k lines
-pub record Inside (k left : ℕ) : Type 0 where
-  pub small : left < 2 ^ 32
-  pub below : (i : ℕ) → bit left i ≡ true → i < k
-
--- the lowest line, and what the machine leaves without it
-abbrev pub lowest-of : ℕ → ℕ
-lowest-of left = trailingZeros 32 left
-
-abbrev pub rest-of : ℕ → ℕ
-rest-of left = left - 1 * 2 ^ trailingZeros 32 left % 2 ^ 32
-
-module _ {k left : ℕ} (g : Inside k left) (h : 0 < left) where
-  low : Lowest 32 left (lowest-of left)
-  low = lowest 32 left h (g .small)
-
-  word : 1 * 2 ^ lowest-of left % 2 ^ 32 ≡ 2 ^ lowest-of left
-  word = shl-exact 1 (lowest-of left) 32 (lit< tt) (omega (arith, low .inside)) ∙ one-mul (2 ^ lowest-of left)
-
-  pub low-line : lowest-of left < k
-  low-line = g .below (lowest-of left) (low .member)
-
-  pub low-small : lowest-of left < 32
-  low-small = low .inside
-
-  pub low-le : 1 * 2 ^ lowest-of left % 2 ^ 32 ≤ left
-  low-le = rw word (bit-le left (lowest-of left) (low .member))
-
-  pub rest-less : rest-of left < left
-  rest-less = omega (arith, word, pow-pos (lowest-of left))
-
-  pub rest-members : members 32 left ≡ lowest-of left ∷ members 32 (rest-of left)
-  rest-members = rw word (members-step 32 left h (g .small))
-
-  pub rest-each : {B : Type 0} (f : ℕ → List B) → each f (members 32 left) ≡ f (lowest-of left) ++ each f (members 32 (rest-of left))
-  rest-each {B} f = ap {B = List B} (each f) rest-members
-
-  pub rest-inside : Inside k (rest-of left)
-  rest-inside = rw word record {
-    small = omega (arith, g .small);
-    below = λ i e. ⊎-elim
-        (λ (q : lowest-of left ≡ i). clashing (bit (left - 2 ^ lowest-of left) i) e (ap (bit (left - 2 ^ lowest-of left)) (sym q) ∙ bit-without left (lowest-of left) (low .member)))
-        (λ q. g .below i (sym (bit-without-other left (lowest-of left) i (low .member) q) ∙ e))
-        (same? (lowest-of left) i);
-  }
+use Rattle.alc.specs.Theorems.Bits.{bit-or, bit-and}
+use Rattle.alc.specs.Theorems.Lists.{filter-step, upTo-elim, cases, clashing, and-right}
+use Rattle.alc.specs.Theorems.Members.{Inside, each-filter}
 
 -- none passes
 filter-none : (p : ℕ → Bool) (a k : ℕ) → ((j : ℕ) → a ≤ j → p j ≡ false) → filter p (from a k) ≡ []

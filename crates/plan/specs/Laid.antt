@@ -1,12 +1,15 @@
 -- What the steps that make a plan do to its words. Definitions only.
 use Prim.Native.Nat.{ℕ, _+_, _<_, _≤_}
-use mathlib.Core.Bool.{Bool, true, false}
+use mathlib.Core.Bool.{Bool, true, false, not as flip}
 use mathlib.Core.Path.{_≡_}
 use mathlib.Core.List.{List}
 use lib.ListN.{getD}
+use lib.Bits.{bitOr}
+use lib.Dec.{eqb}
 use Rattle.alc.specs.Bits.{bit, put}
-use Rattle.alc.specs.Sheet.{Sheet, line, wellFormed}
+use Rattle.alc.specs.Sheet.{Sheet, count, line, wellFormed}
 use Rattle.alc.specs.Label.{sameName}
+use Rattle.alc.specs.Masks.{MasksOf}
 use Rattle.alc.specs.Seeds.{isQuantified}
 use Rattle.sheet.specs.declared.Section.{Section}
 use Rattle.sheet.specs.declared.Sheet.{Sheet as Form}
@@ -64,11 +67,26 @@ pub record Ready (s : Sheet) (p : List ℕ) (i : ℕ) : Type 0 where
   pub working : bit (getD p 389 0) i ≡ isWorking (line s i)
   pub asking : bit (getD p 390 0) i ≡ isQuantified (line s i)
   pub operands : getD p (392 + i) 0 ≡ operandSet (line s i)
-  pub twins : (j : ℕ) → bit (getD p (424 + i) 0) j ≡ sameName (line s i) (line s j)
+  pub group : (j : ℕ) → bit (getD p (428 + i) 0) j ≡ sameName (line s i) (line s j)
 
 -- line i is prepared; the sheet, and what is looked up of other lines, is as before
 pub record LineDone (i : ℕ) (p q : List ℕ) : Type 0 where
   pub ready : Ready (planSheet p) q i
   pub kept : (j : ℕ) → j < 389 → getD q j 0 ≡ getD p j 0
   pub marks : (k : ℕ) → (i ≡ k → ⊥) → (bit (getD q 389 0) k ≡ bit (getD p 389 0) k) × (bit (getD q 390 0) k ≡ bit (getD p 390 0) k)
-  pub words : (k : ℕ) → k < 32 → (i ≡ k → ⊥) → (getD q (392 + k) 0 ≡ getD p (392 + k) 0) × (getD q (424 + k) 0 ≡ getD p (424 + k) 0)
+  pub words : (k : ℕ) → k < 32 → (i ≡ k → ⊥) → (getD q (392 + k) 0 ≡ getD p (392 + k) 0) × (getD q (428 + k) 0 ≡ getD p (428 + k) 0)
+
+-- ---- the masks
+-- each line has its group
+pub record Grouped (p : List ℕ) : Type 0 where
+  pub few : getD p 384 0 ≤ 32
+  pub groups : (i j : ℕ) → i < count (planSheet p) → bit (getD p (428 + i) 0) j ≡ sameName (line (planSheet p) i) (line (planSheet p) j)
+
+-- the group of line j has another line
+abbrev pub sharesAt : List ℕ → ℕ → Bool
+sharesAt p j = flip (eqb (bitOr (put 0 j) (getD p (428 + j) 0)) (put 0 j))
+
+-- the masks stand, and all before them is as it was
+pub record MasksLaid (p q : List ℕ) : Type 0 where
+  pub masks : MasksOf (planSheet p) q 424
+  pub kept : (j : ℕ) → j < 424 → getD q j 0 ≡ getD p j 0

@@ -7,7 +7,7 @@ use lib.ListN.{getD}
 use Rattle.alc.specs.Bits.{bit, put}
 use Rattle.alc.specs.Lists.{upTo}
 use Rattle.alc.specs.Sheet.{Line, top, bottom, name, not, and, or, some, only, Sheet, count, line, wellFormed, inLimits}
-use Rattle.alc.specs.Label.{sameName}
+use Rattle.alc.specs.Masks.{MasksOf}
 use Rattle.alc.specs.Seeds.{isQuantified}
 use Rattle.sheet.specs.Form.{Triple, triple, lineOf, ruleOf, classOf, roleOf}
 
@@ -58,6 +58,6 @@ pub record Prepared (p : List ℕ) : Type 0 where
   -- at 389 the set of working lines, at 390 that of some and only lines
   pub working : (i : ℕ) → bit (getD p 389 0) i ≡ isWorking (line (planSheet p) i)
   pub asking : (i : ℕ) → bit (getD p 390 0) i ≡ isQuantified (line (planSheet p) i)
-  -- from 392 on the operands of each line as a set, from 424 on the lines of the same name
+  -- from 392 on the operands of each line as a set, from 424 on the masks
   pub operands : (i : ℕ) → i < count (planSheet p) → getD p (392 + i) 0 ≡ operandSet (line (planSheet p) i)
-  pub twins : (i j : ℕ) → i < count (planSheet p) → bit (getD p (424 + i) 0) j ≡ sameName (line (planSheet p) i) (line (planSheet p) j)
+  pub masks : MasksOf (planSheet p) p 424

@@ -3,17 +3,18 @@
 use sheet::Section;
 use sheet::Sheet;
 ghost use mathlib.Core.Path.{_≡_};
-ghost use mathlib.Core.Bool.{true};
+ghost use mathlib.Core.Bool.{true, _&&_};
 ghost use Prim.Native.Nat.{ℕ, _<_, _≤_};
 ghost use lib.ListN.{getD};
+ghost use lib.Dec.{eqb, ltb};
 ghost use Rattle.alc.specs.Bits.{bit, put};
 ghost use Rattle.alc.specs.Sheet.{line, operandsBelow, wellFormed, inLimits};
 ghost use Rattle.alc.specs.Label.{sameName};
 ghost use Rattle.sheet.specs.Form.{lineFrom, sheetOf};
 ghost use Rattle.plan.specs.Plan.{planSheet, operandSet, Prepared};
-ghost use Rattle.plan.specs.Laid.{putIf, RowLaid, SectionLaid, AllStand, Unmarked, Pending, LineDone};
+ghost use Rattle.plan.specs.Laid.{putIf, RowLaid, SectionLaid, AllStand, Unmarked, Pending, LineDone, Grouped, sharesAt, MasksLaid};
 
-pub const SIZE: usize = 456;
+pub const SIZE: usize = 460;
 // Each section is three rows of 32: lines first, then rules, class assertions and role assertions.
 pub const ROW: usize = 32;
 
@@ -36,10 +37,20 @@ pub const ROLE_COUNT: usize = 388;
 pub const WORKING: usize = 389;
 
 pub const ASKING: usize = 390;
-// For each line its operands as a set, and the lines of the same name.
+// For each line its operands as a set.
 pub const OPERANDS: usize = 392;
+// The masks, in alc's order.
+pub const MASKS: usize = 424;
 
-pub const TWINS: usize = 424;
+const LINES: usize = 424;
+
+const BOTTOMS: usize = 425;
+
+const TOPS: usize = 426;
+
+const SHARED: usize = 427;
+
+const GROUPS: usize = 428;
 
 // The kinds of lines.
 pub const TOP: u32 = 0;
@@ -145,8 +156,8 @@ fn same_name(kind: u32, first: u32, other: u32, second: u32) -> bool
     false
 }
 
-// The lines with the same name as line i.
-fn twin_set(plan: &[u32; SIZE], i: usize) -> u32
+// The group of line i: the lines of its name.
+fn group_of(plan: &[u32; SIZE], i: usize) -> u32
     requires { ⌜ (i < getD (now plan) 384 0) × (getD (now plan) 384 0 ≤ 32) ⌝ }
     ensures { λ r. ⌜ ((j : ℕ) → bit r j ≡ sameName (line (planSheet (now (plan .entry))) i) (line (planSheet (now (plan .entry))) j)) ⌝ }
 {
@@ -169,13 +180,73 @@ fn prepare_line(mut plan: [u32; SIZE], i: u32) -> [u32; SIZE]
     let at = i as usize;
     let kind = plan[at];
     let operands = operand_set(kind, plan[ROW + at], plan[2 * ROW + at]);
-    let twins = twin_set(&plan, at);
+    let group = group_of(&plan, at);
     let working = with_if(operands != 0, plan[WORKING], i);
     let asking = with_if(OR < kind, plan[ASKING], i);
     plan[WORKING] = working;
     plan[ASKING] = asking;
     plan[OPERANDS + at] = operands;
-    plan[TWINS + at] = twins;
+    plan[GROUPS + at] = group;
+    plan
+}
+
+// All lines.
+fn line_set(lines: u32) -> u32
+    requires { ⌜ lines ≤ 32 ⌝ }
+    ensures { λ r. ⌜ ((j : ℕ) → bit r j ≡ ltb j lines) ⌝ }
+{
+    let mut set = 0u32;
+    let mut j = 0;
+    while j < lines {
+        set = with_line(set, j);
+        j += 1;
+    }
+    set
+}
+
+// The lines of a kind.
+fn kind_set(plan: &[u32; SIZE], kind: u32) -> u32
+    requires { ⌜ getD (now plan) 384 0 ≤ 32 ⌝ }
+    ensures { λ r. ⌜ ((j : ℕ) → bit r j ≡ (ltb j (getD (now (plan .entry)) 384 0) && eqb (getD (now (plan .entry)) j 0) kind)) ⌝ }
+{
+    let mut set = 0u32;
+    let mut j = 0;
+    while j < plan[LINE_COUNT] {
+        set = with_if(plan[j as usize] == kind, set, j);
+        j += 1;
+    }
+    set
+}
+
+// The lines whose group has another line.
+fn shared_set(plan: &[u32; SIZE]) -> u32
+    requires { ⌜ getD (now plan) 384 0 ≤ 32 ⌝ }
+    ensures { λ r. ⌜ ((j : ℕ) → bit r j ≡ (ltb j (getD (now (plan .entry)) 384 0) && sharesAt (now (plan .entry)) j)) ⌝ }
+{
+    let mut set = 0u32;
+    let mut j = 0;
+    while j < plan[LINE_COUNT] {
+        let group = plan[GROUPS + j as usize];
+        let own = with_line(0, j);
+        set = with_if(own | group != own, set, j);
+        j += 1;
+    }
+    set
+}
+
+// The masks, once each line has its group.
+fn prepare_masks(mut plan: [u32; SIZE]) -> [u32; SIZE]
+    requires { ⌜ Grouped plan ⌝ }
+    ensures { λ r. ⌜ MasksLaid plan r ⌝ }
+{
+    let lines = line_set(plan[LINE_COUNT]);
+    let bottoms = kind_set(&plan, BOTTOM);
+    let tops = kind_set(&plan, TOP);
+    let shared = shared_set(&plan);
+    plan[LINES] = lines;
+    plan[BOTTOMS] = bottoms;
+    plan[TOPS] = tops;
+    plan[SHARED] = shared;
     plan
 }
 
@@ -190,5 +261,5 @@ pub fn prepare(sheet: Sheet) -> [u32; SIZE]
         plan = prepare_line(plan, i);
         i += 1;
     }
-    plan
+    prepare_masks(plan)
 }

@@ -9,7 +9,7 @@ use lib.Dec.{eqb}
 use lib.Bits.{bitOr, bitAnd}
 use lib.ListN.{getD}
 use borrow.Author.Tests.{eq-eqb, ne-eqb, le-ltb}
-use Rattle.alc.specs.Bits.{bit}
+use Rattle.alc.specs.Bits.{bit, members}
 use Rattle.alc.specs.Lists.{each}
 use Rattle.alc.specs.Sheet.{Line, top, bottom, name, not, and, or, some, only, Sheet, count, line}
 use Rattle.alc.specs.declared.Label.{Label}
@@ -20,14 +20,14 @@ use Rattle.alc.specs.Seeds.{seedOf, asksOf, isQuantified}
 use Rattle.alc.specs.Theorems.Bits.{bit-ext}
 use Rattle.alc.specs.Theorems.Lists.{and-false-right, same?, clashing, tests-same, or-cases, or-left, or-right}
 use Rattle.alc.specs.Theorems.Label.{has-blank, has-join}
+use Rattle.alc.specs.Theorems.Members.{members-none, Inside, lowest-of, rest-of, rest-each, rest-inside}
 use Rattle.alc.specs.Theorems.Moves.{addAll-keeps, addAll-has, addAll-cases}
 use Rattle.seeds.specs.declared.Asked.{Asked}
 use Rattle.seeds.specs.declared.Asked.the-variants.{Nothing as Nobody, Seed}
 use Rattle.plan.specs.Plan.{planSheet, Prepared}
 use Rattle.seeds.specs.Asks.{handedAt, askedOf, askedAt}
 use Rattle.plan.proofs.Lines.{by-kind, line-is, line-of-kind, lines-fit}
-use Rattle.plan.proofs.Members.{members, members-none}
-use Rattle.plan.proofs.Walking.{Inside, lowest-of, rest-of, rest-each, rest-inside, marked-inside, marked-each}
+use Rattle.plan.proofs.Walking.{marked-inside, marked-each}
 
 -- ---- adding marks
 -- two labels with the same marks are one

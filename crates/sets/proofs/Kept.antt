@@ -14,6 +14,7 @@ use Rattle.alc.specs.Lists.{from, upTo}
 use Rattle.alc.specs.Sheet.{Rule, Sheet, count, wellFormed, linesWell, rulesWell, classesWell, rolesWell, inLimits, mostRules}
 use Rattle.alc.specs.Causes.{keepRules, withRules}
 use Rattle.alc.specs.Theorems.Lists.{and-left, and-right, and-both, all-intro, map-same}
+use Rattle.alc.specs.Theorems.Masks.{masks-moved}
 use Rattle.alc.specs.Theorems.Sheet.{well-formed}
 use Rattle.alc.specs.Theorems.Causes.{kept-well-formed}
 use Rattle.sheet.specs.Form.{triple, lineOf, classOf, roleOf}
@@ -213,7 +214,7 @@ module _ {p : List ℕ} {n i kept : ℕ} {q : List ℕ} (h : Prepared p) (t : Ke
           working = λ k. rw (made-sheet, word 389 (omega arith)) (h .working k);
           asking = λ k. rw (made-sheet, word 390 (omega arith)) (h .asking k);
           operands = λ k b. rw (made-sheet, word (392 + k) (omega arith)) (h .operands k (rw made-sheet at b));
-          twins = λ k j b. rw (made-sheet, word (424 + k) (omega arith)) (h .twins k j (rw made-sheet at b));
+          masks = masks-moved (planSheet made) made 424 (h .masks) (ap (λ (x : Sheet). x .lines) made-sheet) (λ k. word (424 + k) (omega arith));
         },
         made-sheet,
       )

@@ -11,20 +11,21 @@ use lib.Bits.{bitOr, bitAnd}
 use lib.ListN.{getD}
 use types.Run.{OneOf}
 use denote.Enum.Declared.{tagOf}
+use Rattle.alc.specs.Bits.{members}
 use Rattle.alc.specs.Lists.{Maybe, nothing, just, first, filter, each, from, upTo}
 use Rattle.alc.specs.Sheet.{Rule, Sheet, count, line}
 use Rattle.alc.specs.declared.Label.{Label}
 use Rattle.alc.specs.declared.Mark.the-variants.{Holds as holds, Fails as fails}
 use Rattle.alc.specs.Label.{has, Demand, every, either, whenHolds, whenFails}
 use Rattle.alc.specs.Theorems.Lists.{filter-step, cases}
+use Rattle.alc.specs.Theorems.Members.{members-none, Inside, lowest-of, rest-of, rest-each, rest-inside}
 use Rattle.steps.specs.declared.step.Choice.{Choice}
 use Rattle.steps.specs.declared.step.Choice.the-variants.{Nothing}
 use Rattle.plan.specs.Plan.{planSheet, isWorking, Prepared}
 use Rattle.steps.specs.Choice.{unmet, demandsAt, lineDemands, ruleDemands, choiceOf, choice}
 use Rattle.steps.proofs.step.Choice.{the-type}
 use Rattle.plan.proofs.Lines.{no-demand, ruleAt, rules-are, lines-fit}
-use Rattle.plan.proofs.Members.{members, members-none}
-use Rattle.plan.proofs.Walking.{Inside, lowest-of, rest-of, rest-each, rest-inside, marked-inside, marked-each}
+use Rattle.plan.proofs.Walking.{marked-inside, marked-each}
 
 -- ---- the first that passes
 module _ {A : Type 0} where

@@ -11,6 +11,7 @@ use lib.Bits.{bitAnd, bitOr}
 use native.Mathlib.Numerals.{add-one}
 use native.Mathlib.Omega.{arith}
 use borrow.Author.Tests.{eq-eqb, ne-eqb, eqb-true, eqb-false, lt-ltb, ltb-true}
+use Rattle.alc.specs.Bits.{members}
 use Rattle.alc.specs.Lists.{all, _∈_, Distinct, filter, each, upTo}
 use Rattle.alc.specs.Sheet.{Line, top, bottom, name, not, and, or, some, only, Sheet, count, line}
 use Rattle.alc.specs.declared.Label.{Label}
@@ -19,6 +20,7 @@ use Rattle.alc.specs.Label.{has}
 use Rattle.alc.specs.Settle.{label}
 use Rattle.alc.specs.Seeds.{Ask, asksOf, asks, seeds, include, includeAll, among, served, isQuantified}
 use Rattle.alc.specs.Theorems.Lists.{cases, and-both, and-left, and-right, tests-same, filter-intro, filter-elim, upTo-intro, upTo-elim, same?}
+use Rattle.alc.specs.Theorems.Members.{members-none, Inside, lowest-of, rest-of, rest-each, rest-inside}
 use Rattle.alc.specs.Theorems.Moves.{label-of, label-in}
 use Rattle.alc.specs.Theorems.Seeds.{among-in, among-true}
 use Rattle.alc.specs.Theorems.Reach.{include-step, includeAll-append}
@@ -31,8 +33,7 @@ use Rattle.plan.specs.Plan.{planSheet, Prepared}
 use Rattle.seeds.specs.Asks.{askedOf, askedAt}
 use Rattle.tableau.specs.Walks.{standing, seedsAsked}
 use Rattle.plan.proofs.Lines.{lines-fit}
-use Rattle.plan.proofs.Members.{members, members-none}
-use Rattle.plan.proofs.Walking.{Inside, lowest-of, rest-of, rest-each, rest-inside, each-inside, marked-bit, marked-inside}
+use Rattle.plan.proofs.Walking.{each-inside, marked-bit, marked-inside}
 use Rattle.seeds.proofs.Handing.{unmarked}
 
 -- ---- labels and words

@@ -1,7 +1,7 @@
 // A joint label, one label for each individual, and its next step: the lowest individual with a step of its own, else the first role assertion that adds a mark.
+use crate::clash::clash_test;
 use alc::Label;
 use alc::Mark;
-use clash::clash_test;
 use seeds::pushed_along;
 use steps::step::Choice;
 use steps::step::next_choice;

@@ -1,10 +1,10 @@
 // The walks over the settled expansions of a seed. Each calls itself on each branch's label, first branch first; the marks still unset fall at every call.
+use crate::clash::clash_test;
 use crate::records::Grown;
 use crate::records::find;
 use crate::records::include_label;
 use crate::records::word_of;
 use alc::Label;
-use clash::clash_test;
 use seeds::Asked;
 use seeds::asked_at;
 use steps::step::Choice;

@@ -1,17 +1,17 @@
 -- The laws of sets as numbers: members of a set that another member was put into or taken from, equality by members, the machine's words.
-use Prim.Native.Nat.{ℕ, zero, suc, _+_, _-_, _*_, _/_, _%_, _^_, _≤_, _<_, max}
-use mathlib.Core.Bool.{Bool, true, false, true≢false, _||_}
+use Prim.Native.Nat.{ℕ, zero, suc, _+_, _-_, _*_, _/_, _%_, _^_, _≤_, _<_, min, max}
+use mathlib.Core.Bool.{Bool, true, false, true≢false, _&&_, _||_}
 use mathlib.Core.Path.{_≡_, refl, sym, _∙_, ap, ap₂}
 use native.Mathlib.Nat.{div-div-eq-div-mul, div-one, pow-succ', one-mul}
 use native.Mathlib.Decide.{decLt}
 use native.Mathlib.Omega.{arith}
 use lib.Dec.{eqb, lit<}
 use lib.Pow.{shl-exact}
-use lib.Bits.{bitOr, or-step, or-zero-r}
+use lib.Bits.{bitOr, bitAnd, or-step, or-zero-r, and-step}
 use borrow.Author.Tests.{eqb-true, eqb-false, eq-eqb, ne-eqb}
 use Rattle.alc.specs.Bits.{bit, put}
 use mathlib.Core.Logic.{⊎-elim}
-use Rattle.alc.specs.Theorems.Lists.{cases, tests-same, or-left, or-right, or-cases}
+use Rattle.alc.specs.Theorems.Lists.{cases, tests-same, and-left, and-right, and-both, or-left, or-right, or-cases}
 
 pub bit-suc : (s i : ℕ) → bit s (suc i) ≡ bit (s / 2) i
 unfolding bit
@@ -176,3 +176,18 @@ bit-or s t zero =
 bit-or s t (suc i) =
     let half : bitOr s t / 2 ≡ bitOr (s / 2) (t / 2) = omega (arith, or-step s t) in
     rw (bit-suc (bitOr s t) i, bit-suc s i, bit-suc t i, half) (bit-or (s / 2) (t / 2) i)
+
+-- ---- the machine's `&` is the intersection
+test-min : (a b : ℕ) → a < 2 → b < 2 → eqb (min a b) 1 ≡ (eqb a 1 && eqb b 1)
+test-min a b p q =
+    tests-same (eqb (min a b) 1) (eqb a 1 && eqb b 1)
+    (λ e. let m : min a b ≡ 1 = eqb-true (min a b) 1 e in and-both (eqb a 1) (eqb b 1) (eq-eqb a 1 (omega arith)) (eq-eqb b 1 (omega arith)))
+    (λ e. eq-eqb (min a b) 1 (omega (arith, eqb-true a 1 (and-left (eqb a 1) (eqb b 1) e), eqb-true b 1 (and-right (eqb a 1) (eqb b 1) e))))
+
+pub bit-and : (s t i : ℕ) → bit (bitAnd s t) i ≡ (bit s i && bit t i)
+bit-and s t zero =
+    let low : bitAnd s t % 2 ≡ min (s % 2) (t % 2) = omega (arith, and-step s t) in
+    rw (bit-zero (bitAnd s t), bit-zero s, bit-zero t, low) (test-min (s % 2) (t % 2) (omega arith) (omega arith))
+bit-and s t (suc i) =
+    let half : bitAnd s t / 2 ≡ bitAnd (s / 2) (t / 2) = omega (arith, and-step s t) in
+    rw (bit-suc (bitAnd s t) i, bit-suc s i, bit-suc t i, half) (bit-and (s / 2) (t / 2) i)

@@ -7,7 +7,7 @@ use borrow.Author.Needs.{needs}
 use Rattle.seeds.specs.declared.Asked.{Asked}
 use Rattle.plan.specs.Plan.{planSheet}
 use Rattle.edges.specs.Keys.{keysOf, insertKeys, keysAsked, RoleBelow}
-use Rattle.plan.proofs.Walking.{lowest-of, low-line, low-small, low-le, rest-less}
+use Rattle.alc.specs.Theorems.Members.{lowest-of, low-line, low-small, low-le, rest-less}
 use Rattle.edges.proofs.Keyed.{Asking, asking-start, asked-role, some-room, ask-on, asked-all}
 use Rattle.edges.proofs.asked_edges.Statement.{statement}
 use Rattle.edges.proofs.asked_edges.Tie as tie

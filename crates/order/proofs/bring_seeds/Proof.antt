@@ -11,7 +11,7 @@ use Rattle.plan.specs.Plan.{planSheet}
 use Rattle.tableau.specs.Records.{recorded}
 use Rattle.tableau.specs.Walks.{seedsAsked}
 use Rattle.seeds.specs.declared.Asked.{Asked}
-use Rattle.plan.proofs.Walking.{lowest-of, low-line, low-small, low-le, rest-less}
+use Rattle.alc.specs.Theorems.Members.{lowest-of, low-line, low-small, low-le, rest-less}
 use Rattle.tableau.proofs.Buffers.{seedsAt}
 use Rattle.order.proofs.Orders.{Brought, brought-as, BringingSeeds, seeds-start, seed-in, seeds-on, seeds-done, shuffled-none}
 use Rattle.order.proofs.bring_seeds.Statement.{statement}

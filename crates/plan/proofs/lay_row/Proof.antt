@@ -10,7 +10,7 @@ use Rattle.plan.proofs.lay_row.Statement.{statement}
 use Rattle.plan.proofs.lay_row.Tie as tie
 
 abbrev Inv-loop : tie.InvT-loop
-Inv-loop base plan₀ row i₀ plan i = (i ≤ 32) × (length plan ≡ 456) × RowLaid i base row plan₀ plan
+Inv-loop base plan₀ row i₀ plan i = (i ≤ 32) × (length plan ≡ 460) × RowLaid i base row plan₀ plan
 
 abbrev μ-loop : tie.MeasureT-loop
 μ-loop base plan₀ row i₀ plan i = 32 - i

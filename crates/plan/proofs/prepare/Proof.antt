@@ -3,7 +3,7 @@ use Prim.Native.Nat.{_-_}
 use native.Mathlib.Omega.{arith}
 use borrow.Author.Needs.{needs}
 use Rattle.plan.specs.Laid.{Pending}
-use Rattle.plan.proofs.Laid.{PreparedTo, begin, still, turn, finished}
+use Rattle.plan.proofs.Laid.{PreparedTo, begin, still, turn, grouped, finished}
 use Rattle.plan.proofs.prepare.Statement.{statement}
 use Rattle.plan.proofs.prepare.Tie as tie
 
@@ -42,10 +42,15 @@ loop-again c =
     let start = c .before .before .before in
     turn _ _ (start .lay-out .ensures .0) (start .before .pre .0) (start .before .pre .1) _ _ _ (c .before .loop-test .taken) (c .before .before .loop .inv) (c .prepare-line .ensures)
 
+prepare-masks-requires : tie.Need-prepare-masks-requires Inv-loop μ-loop
+prepare-masks-requires c κs =
+    let start = c .before .before in
+    grouped _ _ (start .lay-out .ensures .0) (start .before .pre .0) (start .before .pre .1) _ _ (c .before .loop .inv) (c .loop-test .left)
+
 returns : tie.Need-returns Inv-loop μ-loop
 returns c =
-    let start = c .before .before in
-    finished _ _ (start .lay-out .ensures .0) (start .before .pre .0) (start .before .pre .1) _ _ (c .before .loop .inv) (c .loop-test .left)
+    let start = c .before .before .before in
+    finished _ _ (start .lay-out .ensures .0) (start .before .pre .0) (start .before .pre .1) _ _ (c .before .before .loop .inv) (c .before .loop-test .left) _ (c .prepare-masks .ensures)
 
 pub prepare-spec : {M : Type 1} → statement M
 prepare-spec =
@@ -60,4 +65,5 @@ prepare-spec =
     add-i
     loop-less
     loop-again
+    prepare-masks-requires
     returns)

@@ -34,8 +34,8 @@ array-read-operand-set-2 c = search needs
 operand-set-requires : tie.Need-operand-set-requires
 operand-set-requires c κs = operands-fit (c .args .i) (c .args .t1) (c .pre)
 
-twin-set-requires : tie.Need-twin-set-requires
-twin-set-requires c κs = search needs
+group-of-requires : tie.Need-group-of-requires
+group-of-requires c κs = search needs
 
 array-read-with-if : tie.Need-array-read-with-if
 array-read-with-if c = search needs
@@ -75,9 +75,9 @@ array-write-plan-4 c = search needs
 
 returns : tie.Need-returns
 returns c =
-    let twins = c .before .before in
-    let operands = twins .before .before in
-    line-done _ _ (search needs) (operands .before .pre) _ _ _ _ (operands .operand-set .ensures) (c .before .with-if .ensures) (c .with-if2 .ensures) (twins .twin-set .ensures)
+    let group = c .before .before in
+    let operands = group .before .before in
+    line-done _ _ (search needs) (operands .before .pre) _ _ _ _ (operands .operand-set .ensures) (c .before .with-if .ensures) (c .with-if2 .ensures) (group .group-of .ensures)
 
 pub prepare-line-spec : {M : Type 1} → statement M
 prepare-line-spec =
@@ -93,7 +93,7 @@ prepare-line-spec =
     mul-operand-set-3
     array-read-operand-set-2
     operand-set-requires
-    twin-set-requires
+    group-of-requires
     array-read-with-if
     with-if-requires
     array-read-with-if-2

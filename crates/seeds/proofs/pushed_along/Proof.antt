@@ -1,7 +1,7 @@
 -- All that goes along a role: what is handed on so far, with what the lines that are left hand on.
 use native.Mathlib.Omega.{arith}
 use borrow.Author.Needs.{needs}
-use Rattle.plan.proofs.Walking.{low-small, low-line, low-le, rest-less}
+use Rattle.alc.specs.Theorems.Members.{low-small, low-line, low-le, rest-less}
 use Rattle.seeds.proofs.Handing.{Handing, handing, hand-on, handed-all}
 use Rattle.seeds.proofs.pushed_along.Statement.{statement}
 use Rattle.seeds.proofs.pushed_along.Tie as tie

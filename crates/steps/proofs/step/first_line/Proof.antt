@@ -3,7 +3,7 @@ use mathlib.Core.Path.{_∙_, sym, ap}
 use native.Mathlib.Omega.{arith}
 use borrow.Author.Needs.{needs}
 use Rattle.steps.specs.Choice.{choiceOf}
-use Rattle.plan.proofs.Walking.{low-small, low-line, low-le, rest-less}
+use Rattle.alc.specs.Theorems.Members.{low-small, low-line, low-le, rest-less}
 use Rattle.steps.proofs.Chosen.{not-nothing, Looking, looking, look-on, look-found, looked}
 use Rattle.steps.proofs.step.first_line.Statement.{statement}
 use Rattle.steps.proofs.step.first_line.Tie as tie

@@ -25,7 +25,7 @@ use Rattle.tableau.proofs.walks.collect.Kinds as collect-kinds
 use Rattle.tableau.proofs.walks.+collect.Lts-collect as collect-lts
 use Rattle.alc.proofs.Label.add.Reads as add-reads
 use Rattle.alc.proofs.Label.join.Reads as join-reads
-use Rattle.clash.proofs.clash_test.Reads as clash-test-reads
+use Rattle.tableau.proofs.clash.clash_test.Reads as clash-test-reads
 use Rattle.steps.proofs.step.next_choice.Reads as next-choice-reads
 use Rattle.tableau.proofs.walks.include_seeds.Reads as include-seeds-reads
 use Rattle.tableau.proofs.walks.+collect.{statement}

@@ -20,7 +20,7 @@ use Rattle.tableau.proofs.walks.+count_expansions.Lts-count_expansions 
 use Rattle.alc.proofs.Label.add.Reads as add-reads
 use Rattle.alc.proofs.Label.join.Reads as join-reads
 use Rattle.std.proofs.num.wrapping_add_u64.Reads as wrapping-add-u64-reads
-use Rattle.clash.proofs.clash_test.Reads as clash-test-reads
+use Rattle.tableau.proofs.clash.clash_test.Reads as clash-test-reads
 use Rattle.steps.proofs.step.next_choice.Reads as next-choice-reads
 use Rattle.tableau.proofs.walks.+count_expansions.{statement}
 use Rattle.tableau.proofs.walks.+count_expansions.Tie.{close}

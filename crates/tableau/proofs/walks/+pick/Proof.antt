@@ -23,7 +23,7 @@ use Rattle.tableau.proofs.walks.pick.Kinds as pick-kinds
 use Rattle.tableau.proofs.walks.+pick.Lts-pick as pick-lts
 use Rattle.alc.proofs.Label.add.Reads as add-reads
 use Rattle.alc.proofs.Label.join.Reads as join-reads
-use Rattle.clash.proofs.clash_test.Reads as clash-test-reads
+use Rattle.tableau.proofs.clash.clash_test.Reads as clash-test-reads
 use Rattle.steps.proofs.step.next_choice.Reads as next-choice-reads
 use Rattle.tableau.proofs.walks.seeds_stand.Reads as seeds-stand-reads
 use Rattle.tableau.proofs.walks.+pick.{statement}

@@ -6,7 +6,7 @@ use borrow.Author.Needs.{needs}
 use Rattle.alc.specs.Seeds.{includeAll}
 use Rattle.plan.specs.Plan.{planSheet}
 use Rattle.tableau.specs.Records.{recorded, GrownTo}
-use Rattle.plan.proofs.Walking.{lowest-of, low-line, low-small, low-le, rest-less}
+use Rattle.alc.specs.Theorems.Members.{lowest-of, low-line, low-small, low-le, rest-less}
 use Rattle.tableau.proofs.Buffers.{seedsAt, Including, including, included, include-on, include-full}
 use Rattle.tableau.proofs.walks.include_seeds.Statement.{statement}
 use Rattle.tableau.proofs.walks.include_seeds.Tie as tie

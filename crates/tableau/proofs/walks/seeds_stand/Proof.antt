@@ -8,7 +8,7 @@ use Rattle.alc.specs.Lists.{all}
 use Rattle.alc.specs.Seeds.{among}
 use Rattle.plan.specs.Plan.{planSheet}
 use Rattle.tableau.specs.Walks.{standing}
-use Rattle.plan.proofs.Walking.{lowest-of, low-line, low-small, low-le, rest-less}
+use Rattle.alc.specs.Theorems.Members.{lowest-of, low-line, low-small, low-le, rest-less}
 use Rattle.tableau.proofs.Buffers.{seedsAt, Serving, serving, served-all, serve-on, serve-fails}
 use Rattle.tableau.proofs.walks.seeds_stand.Statement.{statement}
 use Rattle.tableau.proofs.walks.seeds_stand.Tie as tie

@@ -1,19 +1,22 @@
--- The twins of a line: the loop has found those below j.
+-- The group of a line: the loop has found those below j.
 use Prim.Native.Nat.{_-_}
 use borrow.Author.Needs.{needs}
 use lib.ListN.{getD}
-use Rattle.plan.proofs.Laid.{Twins, twins-none, twins-more, twins-all}
-use Rattle.plan.proofs.twin_set.Statement.{statement}
-use Rattle.plan.proofs.twin_set.Tie as tie
+use Rattle.alc.specs.Sheet.{line}
+use Rattle.alc.specs.Label.{sameName}
+use Rattle.plan.specs.Plan.{planSheet}
+use Rattle.plan.proofs.Laid.{FilledTo, filled-none, filled-more, same-at, named-all}
+use Rattle.plan.proofs.group_of.Statement.{statement}
+use Rattle.plan.proofs.group_of.Tie as tie
 
 abbrev Inv-loop : tie.InvT-loop
-Inv-loop plan i set₀ j₀ set j = Twins plan i j set
+Inv-loop plan i set₀ j₀ set j = FilledTo (λ j. sameName (line (planSheet plan) i) (line (planSheet plan) j)) j set
 
 abbrev μ-loop : tie.MeasureT-loop
 μ-loop plan i set₀ j₀ set j = getD plan 384 0 - j
 
 loop-holds : tie.Need-loop-holds Inv-loop μ-loop
-loop-holds c = twins-none _ _
+loop-holds c = filled-none _
 
 element-copy-out-if1 : tie.Need-element-copy-out-if1 Inv-loop μ-loop
 element-copy-out-if1 c = search needs
@@ -67,13 +70,15 @@ loop-again : tie.Need-loop-again Inv-loop μ-loop
 loop-again c =
     let test = c .before .before .before .before .before .before in
     let start = test .before .before .before in
-    rw (c .with-if .ensures) (twins-more _ _ _ _ _ (start .pre .0) (test .if1 .taken) (c .before .same-name .ensures _ _) (test .before .before .loop .inv))
+    let p = start .args .plan .now in
+    let same = same-at p (start .args .i) (test .before .before .loop .j) _ (start .pre .0) (test .if1 .taken) (c .before .same-name .ensures _ _) in
+    rw (c .with-if .ensures) (filled-more _ _ _ _ same (test .before .before .loop .inv))
 
 returns : tie.Need-returns Inv-loop μ-loop
-returns c = twins-all _ _ _ _ (c .if1 .left) (c .before .before .loop .inv)
+returns c = named-all _ _ _ _ (c .if1 .left) (c .before .before .loop .inv)
 
-pub twin-set-spec : {M : Type 1} → statement M
-twin-set-spec =
+pub group-of-spec : {M : Type 1} → statement M
+group-of-spec =
     tie.close
     (tie.spec
     Inv-loop
