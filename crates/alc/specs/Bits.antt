@@ -1,5 +1,5 @@
 -- Sets of small numbers, as numbers: i is in the set s where bit i of s is set. So a set of lines is one machine word, of whatever width.
--- Definitions only; the laws are in Theorems.Bits and Theorems.Members.
+-- Definitions only; the laws are in proofs/Theorems/Bits.antt and Members.antt.
 use Rattle.std.specs.Prelude.{ℕ, ◌+◌, ◌/◌, ◌%◌, ◌^◌, Bool, not as flip, cond, List, eqb}
 use Rattle.std.specs.Int.Bits.{bit_and}
 use Rattle.alc.specs.Lists.{filter, up_to}

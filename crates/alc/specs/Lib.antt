@@ -1,4 +1,4 @@
--- Document 01 as definitions, in the order in which to read them; then the bench sheets; last the theorems, which no definition rests on.
+-- Document 01 as definitions, in the order in which to read them. The bench sheets and the theorems, which no definition rests on, stand in proofs/
 pub mod Lists
 pub mod Bits
 pub mod Sheet
@@ -14,7 +14,3 @@ pub mod Causes
 pub mod Replies
 pub mod Promises
 pub mod Writing
-pub mod Bench
-pub mod Readings
-pub mod Written
-pub mod Theorems

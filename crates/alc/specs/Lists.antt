@@ -1,5 +1,5 @@
 -- Small tools on lists that compute: tests of all and any, the first that passes, what passes, f of each, ranges, order.
--- Definitions only; the laws are in Theorems.Lists and Theorems.Counting.
+-- Definitions only; the laws are in proofs/Theorems/Lists.antt and Counting.antt.
 use Rattle.std.specs.Prelude.{ℕ, zero, suc, ◌<◌, Bool, true, false, ◌&&◌, ◌||◌, eqb}
 use mathlib.Core.List.{List, [], ◌∷◌, ◌++◌, map, Memᴰ}
 

@@ -1,5 +1,5 @@
 -- The masks of a sheet: sets of its lines, made once, so that the clash test looks at whole words (document 02, request 03).
--- What clashes stays as Label.antt has it; that the masks say the same is shown in Theorems/Masks.antt. Definitions only.
+-- What clashes stays as Label.antt has it; that the masks say the same is shown in proofs/Theorems/Masks.antt. Definitions only.
 use Rattle.std.specs.Prelude.{ℕ, ◌+◌, ◌<◌, Bool, not as flip, ◌&&◌, ◌≡◌, List, get_or, eqb, ltb}
 use Rattle.alc.specs.Bits.{bit}
 use Rattle.alc.specs.Lists.{any, up_to}

@@ -1,5 +1,5 @@
 -- What the public functions promise: the whole reply (`exact`), and beside it the demands in words that do not compute the reply.
--- The demands of the customer, and document 01, "Pinning every answer down". Definitions only; Theorems.Promises has the proofs.
+-- The demands of the customer, and document 01, "Pinning every answer down". Definitions only; proofs/Theorems/Promises.antt has the proofs.
 --
 -- What these words still rest on: `well_formed`, `in_limits` and `bytes_of` (which bytes are a sheet); `read_sheet`, which alone tells 3, 4 and 5 apart;
 -- `meets`, `truth` and `Forces` (Meaning); `decoded` and `Shaped` (Model); `with_rules` and `within` (Causes); `bound` (Seeds); and for 13 `settled_joints`,

@@ -1,5 +1,7 @@
 // A label as a value of its own: the type and the methods that all code above uses. What they mean stands in specs/Label.antt,
-// whose `Label` and `Mark` are these very types; what the clash test looks up stands in specs/Masks.antt. The other files of specs/ are document 01 as definitions, and the theorems on them.
+// whose `Label` and `Mark` are these very types; what the clash test looks up stands in specs/Masks.antt. The other files of specs/ are document 01 as definitions; the theorems on them stand in proofs/.
+#![tactic(auto)]
+
 ghost use Rattle.std.specs.Prelude.{◌≡◌, ◌+◌, ◌≤◌, ◌<◌, length, get_or};
 ghost use Rattle.alc.specs.Bits.{meets, members};
 ghost use Rattle.alc.specs.Lists.{any};
@@ -8,14 +10,14 @@ ghost use Rattle.alc.specs.Label.{blank, add, join, has, clashes, line_of};
 ghost use Rattle.alc.specs.Masks.{MasksOf};
 
 // Each line may be marked: it holds, or it fails.
-#[derive(Drop)]
+#[derive(Clone, Copy)]
 pub enum Mark {
     Holds(usize),
     Fails(usize),
 }
 
 // A set of marks: bit i of `holding` is the mark that line i holds, bit i of `failing` that it fails.
-#[derive(Drop)]
+#[derive(Clone, Copy)]
 pub struct Label {
     pub holding: u32,
     pub failing: u32,
@@ -33,7 +35,7 @@ pub const SHARED: usize = 3;
 pub const GROUPS: usize = 4;
 
 // The answer of a test, with the label handed back.
-#[derive(Drop)]
+#[derive(Clone, Copy)]
 pub struct Tested {
     pub label: Label,
     pub found: bool,

@@ -13,11 +13,11 @@ use Rattle.alc.specs.Seeds.{Ask, asks, bound, fine, include_all, seeds}
 use Rattle.alc.specs.Judge.{at_once, considered, settled_joints, start}
 use Rattle.alc.specs.Model as model
 use Rattle.alc.specs.Model.{chosen, model_edges, model_seeds, model_words, satisfy_answer, told}
-use Rattle.alc.specs.Theorems.Lists.{each-elim, each-intro, up_to_first-found}
-use Rattle.alc.specs.Theorems.Sheet.{WellFormed}
-use Rattle.alc.specs.Theorems.Reach.{again, grown-in, include_all-grown, reach-closed, successors-known}
-use Rattle.alc.specs.Theorems.Decides.{chosen-next, nothing_yet}
-use Rattle.alc.specs.Theorems.Answers.{reply-short, reply-told}
+use Rattle.alc.proofs.Theorems.Lists.{each-elim, each-intro, up_to_first-found}
+use Rattle.alc.proofs.Theorems.Sheet.{WellFormed}
+use Rattle.alc.proofs.Theorems.Reach.{again, grown-in, include_all-grown, reach-closed, successors-known}
+use Rattle.alc.proofs.Theorems.Decides.{chosen-next, nothing_yet}
+use Rattle.alc.proofs.Theorems.Answers.{reply-short, reply-told}
 use Rattle.tableau.specs.declared.joint.Labels.{Labels}
 use Rattle.tableau.specs.Joints.{joint_of, Fit}
 use Rattle.tableau.specs.Records.{recorded}

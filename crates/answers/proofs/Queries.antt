@@ -12,7 +12,7 @@ use borrow.Author.Tests.{ltb-true, lt-ltb, le-ltb, le-leb, lt-leb, not-false}
 use Rattle.alc.specs.Sheet.{Sheet, count}
 use Rattle.alc.specs.Model as theory
 use Rattle.alc.specs.Causes.{slots as cause_slots, causes_answer}
-use Rattle.alc.specs.Theorems.Lists.{and_left, and_right}
+use Rattle.alc.proofs.Theorems.Lists.{and_left, and_right}
 use Rattle.answers.specs.declared.Answer.TheVariants.{OutOfSpace, Causes, LongList}
 use Rattle.sets.specs.declared.list.Listed.{Listed}
 use Rattle.sets.specs.declared.list.Listed.TheVariants as listing

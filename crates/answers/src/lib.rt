@@ -1,5 +1,7 @@
 // The answers of document 01, and the two ways to one over a sheet that was read: the verdict with its model, and the cause list.
 // What is right stands in alc's specs/Model.antt and specs/Causes.antt; specs/Answers.antt says what an answer's number and value are, and what each leaves in its buffer.
+#![tactic(auto)]
+
 pub mod decide; // the verdict on a sheet, and its model
 pub mod query; // the cause list of a port and a class
 
@@ -9,7 +11,7 @@ ghost use Rattle.answers.specs.Answers.{answer_number, answer_value};
 use sheet::Reason;
 
 // The answers of document 01, each with what it carries.
-#[derive(Drop)]
+#[derive(Clone, Copy)]
 pub enum Answer {
     Refused(Reason, usize),
     Model(usize),

@@ -11,13 +11,13 @@ use lib.Dec.{ltb}
 use lib.Pow.{pow_mono, shl_exact}
 use borrow.Author.Tests.{lt-ltb, le-ltb}
 use Rattle.alc.specs.Lists.{◌∈◌, filter, from, up_to}
-use Rattle.alc.specs.Theorems.Lists.{here, there, up_to-elim}
-use Rattle.alc.specs.Sheet.{top, line, count}
+use Rattle.alc.proofs.Theorems.Lists.{here, there, up_to-elim}
+use Rattle.alc.specs.Sheet.{top, line}
 use Rattle.alc.specs.Seeds.{is_quantified, quantified, quantifiers}
 use Rattle.sheet.specs.declared.Section.{Section}
 use Rattle.sheet.specs.declared.Sheet.{Sheet}
 use Rattle.sheet.specs.Form.{triple, triples, line_from, line_of, sheet_of}
-use Rattle.reader.specs.Theorems.{entry-count}
+use Rattle.reader.proofs.Theorems.{entry-count}
 
 -- ---- the loop: e of the first i lines are some or only lines
 abbrev pub quantifies : List ℕ → ℕ → Bool

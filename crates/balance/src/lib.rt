@@ -1,5 +1,7 @@
 // The worst-case balance of a sheet and a room: what is left of the room if the sheet needs as many records as it can. Below zero is an answer and no error.
 // What is right stands in alc's specs/Seeds.antt (quantifiers, bound) and specs/Replies.antt (balance_reply); specs/Balance.antt says which of them an answer is.
+#![tactic(auto)]
+
 ghost use Rattle.std.specs.Prelude.{◌≡◌, ◌*◌, ◌-◌, ◌^◌, ◌≤◌, pos, ◌-ℤ◌};
 ghost use Rattle.alc.specs.Seeds.{quantifiers};
 ghost use Rattle.alc.specs.Promises.{BalancePromise};
@@ -10,7 +12,7 @@ use reader::read_sheet;
 use sheet::{Outcome, Reason, Sheet};
 
 // What is left, or the refusal.
-#[derive(Drop)]
+#[derive(Clone, Copy)]
 pub enum Margin {
     Refused(Reason, usize),
     Left(i64),

@@ -9,7 +9,7 @@ use Rattle.alc.specs.Sheet.{Sheet}
 use Rattle.alc.specs.Bytes.{Read, refused, taken, read_sheet}
 use Rattle.alc.specs.Replies.{Reply, untouched, checked}
 use Rattle.alc.specs.Promises.{LentWell}
-use Rattle.alc.specs.Theorems.Promises.{lent-well}
+use Rattle.alc.proofs.Theorems.Promises.{lent-well}
 use Rattle.sheet.specs.declared.Reason.{Reason}
 use Rattle.sheet.specs.declared.Outcome.{Outcome}
 use Rattle.sheet.specs.declared.Outcome.TheVariants.{Accepted, Refused}

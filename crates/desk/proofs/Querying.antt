@@ -11,8 +11,8 @@ use Rattle.alc.specs.Bytes.{Read, refused, taken}
 use Rattle.alc.specs.Causes.{causes_answer}
 use Rattle.alc.specs.Replies.{untouched, finished, causes_read, causes_reply}
 use Rattle.alc.specs.Promises.{CausesPromise}
-use Rattle.alc.specs.Theorems.Answers.{two-only}
-use Rattle.alc.specs.Theorems.Promises.{causes-kept}
+use Rattle.alc.proofs.Theorems.Answers.{two-only}
+use Rattle.alc.proofs.Theorems.Promises.{causes-kept}
 use Rattle.answers.specs.declared.Answer.{Answer}
 use Rattle.answers.specs.declared.Answer.TheVariants.{OutOfSpace, Causes, LongList}
 use Rattle.answers.specs.Answers.{reply_of, Queried}

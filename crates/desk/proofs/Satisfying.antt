@@ -11,8 +11,8 @@ use Rattle.alc.specs.Model as theory
 use Rattle.alc.specs.Model.{satisfy_answer}
 use Rattle.alc.specs.Replies.{Reply, untouched, finished, cleared, satisfy_read, satisfy_reply}
 use Rattle.alc.specs.Promises.{SatisfyPromise}
-use Rattle.alc.specs.Theorems.Answers.{three-only}
-use Rattle.alc.specs.Theorems.Promises.{fits, long, none, finished-cases, zeros-alone, satisfy-kept}
+use Rattle.alc.proofs.Theorems.Answers.{three-only}
+use Rattle.alc.proofs.Theorems.Promises.{fits, long, none, finished-cases, zeros-alone, satisfy-kept}
 use Rattle.answers.specs.declared.Answer.{Answer}
 use Rattle.answers.specs.declared.Answer.TheVariants.{Model, LongModel, Unsatisfiable, OutOfSpace}
 use Rattle.answers.specs.Answers.{answer_number, answer_value, reply_of, Decided}

@@ -1,4 +1,4 @@
-// What C and Rust are handed: the public functions with a code and a carried value in the place of an enum. bindings/ has the callers.
+// What C and Rust are handed, by the crate desk_c: the public functions with a code and a carried value in the place of an enum.
 // Each keeps the whole promise of the function that it calls, and asks for nothing: any bytes, any numbers, any buffers.
 ghost use Rattle.std.specs.Prelude.{◌≡◌, ◌<◌, pos};
 ghost use Rattle.alc.specs.Replies as replies;
@@ -12,8 +12,7 @@ use sheet::reason_number;
 use writer::{write_numbers, written_number, written_value};
 
 // `satisfy`: document 01's number, and what it carries.
-#[unsafe(no_mangle)]
-pub extern "C" fn bargaindune_satisfy(
+pub fn bargaindune_satisfy(
     sheet: &[u8],
     records: &mut [u64],
     marks: &mut [u8],
@@ -28,8 +27,7 @@ pub extern "C" fn bargaindune_satisfy(
 }
 
 // `causes`: document 01's number, and what it carries.
-#[unsafe(no_mangle)]
-pub extern "C" fn bargaindune_causes(
+pub fn bargaindune_causes(
     sheet: &[u8],
     port: u64,
     class: u64,
@@ -46,13 +44,7 @@ pub extern "C" fn bargaindune_causes(
 }
 
 // `balance`: 0, which is no number of document 01, with what is left; or the refusal's number, with its place. What is not told is 0.
-#[unsafe(no_mangle)]
-pub extern "C" fn bargaindune_balance(
-    sheet: &[u8],
-    room: u64,
-    carried: &mut u64,
-    left: &mut i64,
-) -> u64
+pub fn bargaindune_balance(sheet: &[u8], room: u64, carried: &mut u64, left: &mut i64) -> u64
     ensures balance_promise { result ≡ 0 → BalancePromise sheet.now room (replies.left left.new) × (carried.new ≡ 0) }
     ensures balance_promise_2 { 0 < result → BalancePromise sheet.now room (replies.faulty result carried.new) × (left.new ≡ pos 0) }
 {
@@ -72,8 +64,7 @@ pub extern "C" fn bargaindune_balance(
 }
 
 // `write_numbers`: 0, 16, or the refusal's number, and what it carries.
-#[unsafe(no_mangle)]
-pub extern "C" fn bargaindune_write(numbers: &[u16], out: &mut [u8], carried: &mut u64) -> u64
+pub fn bargaindune_write(numbers: &[u16], out: &mut [u8], carried: &mut u64) -> u64
     ensures { WritePromise numbers.now out.old (record { number = result; carries = carried.new; out = out.new }) }
 {
     let written = write_numbers(numbers, out);

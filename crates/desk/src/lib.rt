@@ -1,5 +1,7 @@
 // The desk: the public functions. Any bytes, any numbers, any buffers: each answer is named, and for each it is settled what every buffer holds.
 // What is right stands in alc's specs/Replies.antt and specs/Promises.antt; specs/Desk.antt says what a question begins with, answers' specs/Answers.antt what an answer's number and value are.
+#![tactic(auto)]
+
 pub mod export; // for C and Rust
 
 ghost use Rattle.std.specs.Prelude.{◌≡◌, ◌<◌};
@@ -27,7 +29,7 @@ fn lent_badly(records: usize, marks: usize) -> bool
 }
 
 // What a question begins with: the plan of an accepted sheet, or a refusal.
-#[derive(Drop)]
+#[derive(Clone, Copy)]
 struct Opened {
     plan: [u32; plan::SIZE],
     outcome: Outcome,

@@ -22,13 +22,13 @@ use Rattle.alc.specs.Label.{has}
 use Rattle.alc.specs.Settle.{Joint, label}
 use Rattle.alc.specs.Seeds.{Ask, asks_of, asks, same}
 use Rattle.alc.specs.Model.{leads, asserted}
-use Rattle.alc.specs.Theorems.Lists.{cases, and_left, and_right, and_both, or_left, or_right, or_cases, here, there, cond-elim, cond-intro, any-intro, any-elim, each-intro, each-elim, up_to-elim, filter-length, length_from, get_or-in}
-use Rattle.alc.specs.Theorems.Members.{members-none, Inside, lowest-of, rest_of, rest-members, rest-each, rest-inside}
-use Rattle.alc.specs.Theorems.Sheet.{WellFormed, well-formed, lines-limited, roles-limited}
-use Rattle.alc.specs.Theorems.Moves.{label-of}
-use Rattle.alc.specs.Theorems.Seeds.{same_true, same_refl}
-use Rattle.alc.specs.Theorems.Sorted.{Sorted, sorted-unique}
-use Rattle.alc.specs.Theorems.Words.{Earlier, earlier-once, leaving, leaving-elim, leaving-intro, leaving-sorted}
+use Rattle.alc.proofs.Theorems.Lists.{cases, and_left, and_right, and_both, or_left, or_right, or_cases, here, there, cond-elim, cond-intro, any-intro, any-elim, each-intro, each-elim, up_to-elim, filter-length, length_from, get_or-in}
+use Rattle.alc.proofs.Theorems.Members.{members-none, Inside, lowest-of, rest_of, rest-members, rest-each, rest-inside}
+use Rattle.alc.proofs.Theorems.Sheet.{WellFormed, well-formed, lines-limited, roles-limited}
+use Rattle.alc.proofs.Theorems.Moves.{label-of}
+use Rattle.alc.proofs.Theorems.Seeds.{same_true, same_refl}
+use Rattle.alc.proofs.Theorems.Sorted.{Sorted, sorted-unique}
+use Rattle.alc.proofs.Theorems.Words.{Earlier, earlier-once, leaving, leaving-elim, leaving-intro, leaving-sorted}
 use Rattle.edges.specs.declared.Edges.{Edges}
 use Rattle.plan.specs.Plan.{plan_sheet, Prepared}
 use Rattle.seeds.specs.Asks.{asked_of, asked_at}

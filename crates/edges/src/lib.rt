@@ -1,5 +1,7 @@
 // The edges from one element as keys, role · 8192 + to, each once and ascending: so sorted by role and to.
 // What is right stands in alc's specs/Model.antt; specs/Keys.antt says what the keys stand for. Needs no verdict, so that it rests on tableau and not on engine.
+#![tactic(auto)]
+
 ghost use Rattle.std.specs.Prelude.{◌≡◌, [], map, ◌+◌, ◌<◌, ◌≤◌, length};
 ghost use Rattle.alc.specs.Lists.{Ascending, Distinct};
 ghost use Rattle.alc.specs.Seeds.{asks};
@@ -16,7 +18,7 @@ use tableau::records::{find, word_of};
 // At most 32 lines ask, and there are at most 16 role assertions.
 pub const MOST: usize = 48;
 
-#[derive(Drop)]
+#[derive(Clone, Copy)]
 pub struct Edges {
     pub keys: [u32; MOST],
     pub count: usize,

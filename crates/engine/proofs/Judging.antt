@@ -1,37 +1,38 @@
 -- Judging joint labels one after the other: marks that are cleared in part, and the settled joint labels of a start by its next step.
 use Prim.Native.Nat.{ℕ, ◌+◌, ◌-◌, ◌≤◌, ◌<◌}
 use mathlib.Core.Bool.{Bool, true, false}
-use mathlib.Core.Path.{◌≡◌, refl, sym, ◌∙◌, ap, subst}
+use mathlib.Core.Path.{◌≡◌, refl, sym, ◌∙◌, ap, ap₂, subst}
 use mathlib.Core.Logic.{⊎_elim}
 use mathlib.Core.List.Memᴰ
 use mathlib.Core.List.{List, [], ◌∷◌, ◌++◌, append_assoc, append-nil}
 use lib.ListN.{length, get_or, take, set, replicate, length-replicate, get_or-replicate, get_or-append}
 use lib.Seq.{length-take-le, get_or-take, get_or-append-add}
 use borrow.Rule.Slice.PartMut.{mid_of, post_of, put_mid, same_len_mid, mid_len}
-use types.Run.{OneOf}
-use denote.Enum.Declared.{tag_of}
 use native.Mathlib.Omega.{arith}
 use Rattle.alc.specs.Lists.{Maybe, nothing, just, all, first, up_to_first}
 use Rattle.alc.specs.Sheet.{Sheet}
 use Rattle.alc.specs.declared.Label.{Label}
-use Rattle.alc.specs.Label.{blank}
+use Rattle.alc.specs.declared.Mark.{Mark}
+use Rattle.alc.specs.Label.{add, blank, join}
 use Rattle.alc.specs.Settle as theory
 use Rattle.alc.specs.Settle.{label, settle}
 use Rattle.alc.specs.Seeds.{fine, served}
-use Rattle.alc.specs.Theorems.Lists.{cases}
-use Rattle.alc.specs.Theorems.Steps.{unset_all}
+use Rattle.alc.proofs.Theorems.Lists.{cases}
+use Rattle.alc.proofs.Theorems.Steps.{unset_all}
 use Rattle.engine.specs.declared.judge.Verdict.{Verdict}
 use Rattle.engine.specs.declared.judge.Verdict.TheVariants.{Full, Going, Fine}
 use Rattle.engine.specs.declared.judge.Judged.{Judged}
+use Rattle.plan.specs.Plan.{plan_sheet, Prepared}
+use Rattle.tableau.specs.declared.joint.JointStep.{JointStep}
+use Rattle.tableau.specs.declared.joint.JointStep.TheVariants.{Onward, Split}
 use Rattle.tableau.specs.declared.joint.Labels.{Labels}
 use Rattle.tableau.specs.Records.{recorded}
 use Rattle.tableau.specs.Walks.{standing}
-use Rattle.tableau.specs.Joints.{joint_of, Fit}
+use Rattle.tableau.specs.Joints.{joint_of, Fit, next_of, settle_by}
 use Rattle.engine.specs.Ledger.{Known, Ledger, Lent, Stable, Struck}
 use Rattle.engine.specs.Verdicts.{JudgedAll, JudgedOne, ToldAll, ToldOne, Weighed, used_by}
-use Rattle.engine.specs.contracts.judge.Verdict.{the_type}
 use Rattle.steps.proofs.Chosen.{or_else, first-append}
-use Rattle.tableau.proofs.Jointly.{with-falls, with-fits, with-is}
+use Rattle.tableau.proofs.Jointly.{FreshBy, joint-length, stepped_fresh, stepped-settles, with-falls, with-fits, with-is}
 use Rattle.engine.proofs.Ledgers.{struck-size, too-many-more}
 
 -- the records are lent with other marks, as many
@@ -159,10 +160,6 @@ module _ (s : Sheet) where
   told-first Js Ks Ls r (Going n) h recs marks k = absurd (h n refl)
   told-first Js Ks Ls r (Fine n) h recs marks (k, e) = rw (up_to_first-append (all (fine s)) Ks Ls, first-append (all (fine s)) Ks Ls, e, append-nil) (k, refl)
 
--- where the code's match came by another arm
-pub not_going : {v : Verdict} → OneOf (0 ∷ 2 ∷ []) (tag_of the_type v) → (n : ℕ) → v ≡ Going n → ⊥
-not_going {v} k n e = ⊎_elim (λ x. omega arith) (λ x. omega arith) (rw e at k)
-
 module _ (s : Sheet) (j : Labels) (fit : Fit s j) (used : ℕ) (before marks : List ℕ) where
   -- it clashes: there are none
   pub judged-clashed : Lent used before marks → Known s (recorded used before) → settle s s.roles (joint_of j) ≡ []
@@ -245,3 +242,49 @@ branch {s} {j} {t} fit now r a f inside fewer {l} e w = record {
   fits = with-fits j r a f l inside e w s fit;
   less = with-falls j r a f l inside e w 32 t now fewer;
 }
+
+-- ---- the next step k of a joint label: what it adds is new, and the settled joint labels are those of what follows
+pub record Stepped (p : List ℕ) (j : Labels) (k : JointStep) : Type 0 where
+  pub fit : Fit (plan_sheet p) j
+  pub fresh : FreshBy 32 j.count (joint_of j) k
+  pub settles : settle (plan_sheet p) (plan_sheet p).roles (joint_of j) ≡ settle_by (plan_sheet p) (joint_of j) k
+
+pub stepped : {p : List ℕ} → Prepared p → (j : Labels) → length j.labels ≡ 8 → Fit (plan_sheet p) j → {k : JointStep} → k ≡ next_of (plan_sheet p) (joint_of j)
+    → Stepped p j k
+stepped ready j sized fit {k} e = record {
+  fit = fit;
+  fresh = stepped_fresh ready j fit (joint-length j sized fit.small) k e;
+  settles = stepped-settles ready j fit (joint-length j sized fit.small) k e;
+}
+
+-- marks are added to the label at a
+module _ {p : List ℕ} {j : Labels} {a : ℕ} {more : Label} (g : Stepped p j (Onward a more)) where
+  pub onward-at : a < 8
+  onward-at = omega (arith, g.fresh.0, g.fit.small)
+
+  pub onward : {t : ℕ} → unset_all 32 (joint_of j) ≡ t → (r : Labels) {l : Label} → l ≡ join (get_or j.labels a blank) more
+      → (joint_of r ≡ set (joint_of j) a l) × (r.count ≡ j.count) → Branch (plan_sheet p) (set (joint_of j) a (join (label (joint_of j) a) more)) t r
+  onward now r e w = branch g.fit now r a (λ (l : Label). join l more) g.fresh.0 g.fresh.1 e w
+
+-- one of two marks is
+module _ {p : List ℕ} {j : Labels} {a : ℕ} {m n : Mark} (g : Stepped p j (Split a m n)) where
+  abbrev pub marked : Mark → theory.Joint
+  marked m = set (joint_of j) a (add (label (joint_of j) a) m)
+
+  pub split_at : a < 8
+  split_at = omega (arith, g.fresh.0, g.fit.small)
+
+  module _ {t : ℕ} (now : unset_all 32 (joint_of j) ≡ t) (r : Labels) {l : Label} where
+    -- the first
+    pub split-first : l ≡ add (get_or j.labels a blank) m → (joint_of r ≡ set (joint_of j) a l) × (r.count ≡ j.count) → Branch (plan_sheet p) (marked m) t r
+    split-first e w = branch g.fit now r a (λ (l : Label). add l m) g.fresh.0 g.fresh.1.1 e w
+
+    -- the second
+    pub split-second : l ≡ add (get_or j.labels a blank) n → (joint_of r ≡ set (joint_of j) a l) × (r.count ≡ j.count) → Branch (plan_sheet p) (marked n) t r
+    split-second e w = branch g.fit now r a (λ (l : Label). add l n) g.fresh.0 g.fresh.2.1 e w
+
+  -- the settled joint labels are those of both
+  pub split-both : {t : ℕ} {r : Labels} → Branch (plan_sheet p) (marked m) t r → (L : theory.Joint)
+      → settle (plan_sheet p) (plan_sheet p).roles L ≡ settle (plan_sheet p) (plan_sheet p).roles (marked n)
+      → settle (plan_sheet p) (plan_sheet p).roles (joint_of j) ≡ settle (plan_sheet p) (plan_sheet p).roles (joint_of r) ++ settle (plan_sheet p) (plan_sheet p).roles L
+  split-both f L e = g.settles ∙ ap₂ ◌++◌ (sym f.settles) (sym e)

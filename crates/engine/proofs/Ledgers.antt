@@ -18,15 +18,15 @@ use Rattle.alc.specs.Label.{clashes}
 use Rattle.alc.specs.Settle.{Joint, label, closes}
 use Rattle.alc.specs.Seeds.{Ask, SeedSatisfiable, among, asks, bound, expansions, fine, good, include_all, reach, seeds, seed_survives, served, successors}
 use Rattle.alc.specs.Judge.{Entry, Reached, at_once, considered, later, records_needed}
-use Rattle.alc.specs.Theorems.Lists.{cases, clashing, same?, all-cong, tests_same, any_none, each-elim, each-intro, here, filter-elim, filter-intro, filter_same, up_to-elim, up_to-intro}
-use Rattle.alc.specs.Theorems.Counting.{filter-filter, pigeon}
-use Rattle.alc.specs.Theorems.Sheet.{WellFormed}
-use Rattle.alc.specs.Theorems.Moves.{label-in, label-of}
-use Rattle.alc.specs.Theorems.Seeds.{among_in, among-true, seeds-in}
-use Rattle.alc.specs.Theorems.Survive.{Closed, strike-keeps, survivor-satisfiable}
-use Rattle.alc.specs.Theorems.Decides.{seed-complete, seed-sound, seeds-known}
-use Rattle.alc.specs.Theorems.Reach.{ClosedBy, Grows, again, closed-by-successors, grown-at, grown-in, grown-refl, grown-trans, include_all-all, include_all-grown, reach-all, reach-closed, successors-known}
-use Rattle.alc.specs.Theorems.Records.{records-are, records-distinct}
+use Rattle.alc.proofs.Theorems.Lists.{cases, clashing, same?, all-cong, tests_same, any_none, each-elim, each-intro, here, filter-elim, filter-intro, filter_same, up_to-elim, up_to-intro}
+use Rattle.alc.proofs.Theorems.Counting.{filter-filter, pigeon}
+use Rattle.alc.proofs.Theorems.Sheet.{WellFormed}
+use Rattle.alc.proofs.Theorems.Moves.{label-in, label-of}
+use Rattle.alc.proofs.Theorems.Seeds.{among_in, among-true, seeds-in}
+use Rattle.alc.proofs.Theorems.Survive.{Closed, strike-keeps, survivor-satisfiable}
+use Rattle.alc.proofs.Theorems.Decides.{seed-complete, seed-sound, seeds-known}
+use Rattle.alc.proofs.Theorems.Reach.{ClosedBy, Grows, again, closed-by-successors, grown-at, grown-in, grown-refl, grown-trans, include_all-all, include_all-grown, reach-all, reach-closed, successors-known}
+use Rattle.alc.proofs.Theorems.Records.{records-are, records-distinct}
 use Rattle.tableau.specs.Records.{GrownTo, label_of, recorded}
 use Rattle.tableau.specs.Walks.{standing}
 use Rattle.engine.specs.Ledger.{Known, Ledger, Lent, Struck, none, one, Stable, stands}

@@ -20,9 +20,9 @@ use Rattle.alc.specs.Settle as theory
 use Rattle.alc.specs.Settle.{label}
 use Rattle.alc.specs.Seeds.{bound, include_all, reach, seeds, successors}
 use Rattle.alc.specs.Judge.{Entry, enter, entries, start}
-use Rattle.alc.specs.Theorems.Sheet.{well-formed}
-use Rattle.alc.specs.Theorems.Reach.{Grows, grown-bound, grown-refl, include_all-append, include_all-grown, successors-known}
-use Rattle.alc.specs.Theorems.Lists.{Found, found, missing, and_left, and_right, any-intro, any_false, cases, clashing, first-is, get_or-in, length_from, map-from, same?}
+use Rattle.alc.proofs.Theorems.Sheet.{well-formed}
+use Rattle.alc.proofs.Theorems.Reach.{Grows, grown-bound, grown-refl, include_all-append, include_all-grown, successors-known}
+use Rattle.alc.proofs.Theorems.Lists.{Found, found, missing, and_left, and_right, any-intro, any_false, cases, clashing, first-is, get_or-in, length_from, map-from, same?}
 use Rattle.tableau.specs.declared.walks.Picked.TheVariants.{Nothing, Found as Picks}
 use Rattle.tableau.specs.declared.joint.Labels.{Labels}
 use Rattle.tableau.specs.declared.records.Grown.{Grown}
@@ -154,7 +154,7 @@ module _ {s : Sheet} {used start : ℕ} {recs m now : List ℕ} {changed : Bool}
       (cases changed)
 
 -- ---- filling a buffer: what is left to do with the records so far makes the whole
-grown-as : {D : List Label} {before after : List ℕ} {r q : Grown} → r ≡ q → GrownTo D before r after → GrownTo D before q after
+pub grown-as : {D : List Label} {before after : List ℕ} {r q : Grown} → r ≡ q → GrownTo D before r after → GrownTo D before q after
 grown-as {D} {before} {after} e t = subst (λ (x : Grown). GrownTo D before x after) e t
 
 pub record Filling (whole : List Label) (before : List ℕ) (left : List Label → List Label) (used : ℕ) (buf : List ℕ) : Type 0 where

@@ -23,7 +23,7 @@ use tableau::walks::{include_seeds, seeds_stand};
 use zeros::clear_marks;
 
 // There is no room; so many records are used and no joint label is fine yet; or one is.
-#[derive(Drop)]
+#[derive(Clone, Copy)]
 pub enum Verdict {
     Full,
     Going(usize),
@@ -31,7 +31,7 @@ pub enum Verdict {
 }
 
 // The verdict, and the joint label that is fine, where one is.
-#[derive(Drop)]
+#[derive(Clone, Copy)]
 pub struct Judged {
     pub joint: Labels,
     pub verdict: Verdict,

@@ -22,10 +22,10 @@ use Rattle.alc.specs.Settle.{label}
 use Rattle.alc.specs.Seeds.{asks}
 use Rattle.alc.specs.Model.{leads, asserted, chosen, label_at, edge_at, model_edges, name_mask, model_seeds, model_words}
 use Rattle.alc.specs.Model as model
-use Rattle.alc.specs.Theorems.Lists.{and_left, and_right, and_both, and-false-left, and-false-right, or_right, cond-elim, each_append, each-elim, all-elim, get_or-in, length_from, same?, up_to-more}
-use Rattle.alc.specs.Theorems.Counting.{length-each}
-use Rattle.alc.specs.Theorems.Bits.{bit-none, bit-put, bit-put-other, put_word, bit-ext-below}
-use Rattle.alc.specs.Theorems.Words.{mask-small, mask-bit}
+use Rattle.alc.proofs.Theorems.Lists.{and_left, and_right, and_both, and-false-left, and-false-right, or_right, cond-elim, each_append, each-elim, all-elim, get_or-in, length_from, same?, up_to-more}
+use Rattle.alc.proofs.Theorems.Counting.{length-each}
+use Rattle.alc.proofs.Theorems.Bits.{bit-none, bit-put, bit-put-other, put_word, bit-ext-below}
+use Rattle.alc.proofs.Theorems.Words.{mask-small, mask-bit}
 use Rattle.sheet.specs.Form.{line_from}
 use Rattle.tableau.specs.declared.joint.Labels.{Labels}
 use Rattle.edges.specs.declared.Edges.{Edges}
@@ -288,9 +288,9 @@ module _ {s : Sheet} {j : Labels} {used seeds : ℕ} {recs marks : List ℕ} (r 
             r.complete.onward (label seeds_of (x - length (joint_of j))) (get_or-in seeds_of (x - length (joint_of j)) _ (omega (arith, long, seeds-length)))
 
 -- the edges from x, as the code has them: the keys of an array of 48
-module _ {A : Type 0} (f : ℕ → A) (e : Edges) (full : length (map f e.keys) ≡ 48) (b : e.count ≤ 48) (x : ℕ) (rows : List (List ℕ)) (is : map (edge_of x) (keys_of e) ≡ rows) where
+module _ (e : Edges) (full : length e.keys ≡ 48) (b : e.count ≤ 48) (x : ℕ) (rows : List (List ℕ)) (is : map (edge_of x) (keys_of e) ≡ rows) where
   keys_length : length (keys_of e) ≡ e.count
-  keys_length = length-take-le e.count e.keys (omega (arith, length-map e.keys f))
+  keys_length = length-take-le e.count e.keys (omega arith)
 
   pub row_count : length rows ≡ e.count
   row_count = ap length (sym is) ∙ length-map (keys_of e) (edge_of x) ∙ keys_length
@@ -326,7 +326,7 @@ module _ (s : Sheet) (J : theory.Joint) (B : List Label) {buf : List ℕ} {x at 
       let end : at ≡ 3 * length (model_edges s J B (chosen s)) = omega (arith, g.behind, ap length all, edges-length s J B) in
       g.words ∙ ap₂ (λ (r : List ℕ) (k : ℕ). r ++ drop k buf) (all ∙ sym (edge-words s J B)) end
 
-  module _ {A : Type 0} (f : ℕ → A) (e : Edges) (full : length (map f e.keys) ≡ 48) (b : e.count ≤ 48) (is : map (edge_of x) (keys_of e) ≡ edges_at s J B x)
+  module _ (e : Edges) (full : length e.keys ≡ 48) (b : e.count ≤ 48) (is : map (edge_of x) (keys_of e) ≡ edges_at s J B x)
       (inside : x < size s J B) (fits : 3 * length (model_edges s J B (chosen s)) ≤ length buf) where
     pub row_room : at + 3 * e.count ≤ length buf
     row_room =
@@ -334,13 +334,13 @@ module _ (s : Sheet) (J : theory.Joint) (B : List Label) {buf : List ℕ} {x at 
         let whole : x + 1 + n ≡ size s J B = omega arith in
         let upon : length (each (edge_words s J B) (up_to (x + 1))) ≤ length (each (edge_words s J B) (up_to (size s J B))) =
         subst (λ (k : ℕ). length (each (edge_words s J B) (up_to (x + 1))) ≤ length (each (edge_words s J B) (up_to k))) whole (length-below (edge_words s J B) (x + 1) n) in
-        omega (arith, g.behind, length_more (edge_words s J B) x, edges-length s J B, ap length (row_words f e full b x (edges_at s J B x) is), word_count f e full b x (edges_at s J B x) is)
+        omega (arith, g.behind, length_more (edge_words s J B) x, edges-length s J B, ap length (row_words e full b x (edges_at s J B x) is), word_count e full b x (edges_at s J B x) is)
 
     pub lay-row : (at' : ℕ) (out' : List ℕ) → at' ≡ at + 3 * e.count → out' ≡ take at out ++ (each (edge_of x) (keys_of e) ++ drop (at + 3 * e.count) out)
         → Laying (edge_words s J B) 0 buf (x + 1) at' out'
     lay-row at' out' further laid =
-        lay-on (edge_words s J B) 0 buf g (each (edge_of x) (keys_of e)) out' at' (row_words f e full b x (edges_at s J B x) is)
-        (omega (arith, word_count f e full b x (edges_at s J B x) is)) (omega (arith, row_room)) (laid ∙ rw further)
+        lay-on (edge_words s J B) 0 buf g (each (edge_of x) (keys_of e)) out' at' (row_words e full b x (edges_at s J B x) is)
+        (omega (arith, word_count e full b x (edges_at s J B x) is)) (omega (arith, row_room)) (laid ∙ rw further)
 
 -- ---- the names of a set
 -- only lines of kind 2 are names

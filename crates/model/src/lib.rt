@@ -1,6 +1,8 @@
 // The words of the model: the number of elements, a mask of true names for each, the number of edges, each edge as from, role, to.
 // Each section is written into the part of the buffer behind the last.
 // What is right stands in alc's specs/Model.antt; specs/Laid.antt says what the writer starts from and how it lays the words. The elements come from order, their edges from edges.
+#![tactic(auto)]
+
 ghost use Rattle.std.specs.Prelude.{◌≡◌, ◌++◌, ◌+◌, ◌*◌, ◌<◌, ◌≤◌, length, take, drop};
 ghost use Rattle.alc.specs.Lists.{each};
 ghost use Rattle.alc.specs.Model.{chosen, model_edges};

@@ -1,5 +1,7 @@
 // Numbers of one or two groups of seven bits: the number that starts at a place, with the place behind it, or the refusal.
 // What is right stands in alc's specs/Bytes.antt (number_at, below_at); specs/Form.antt says what a `Number` means.
+#![tactic(auto)]
+
 ghost use Rattle.std.specs.Prelude.{◌≡◌, ◌<◌};
 ghost use Rattle.alc.specs.Bytes.{number_at, below_at};
 ghost use Rattle.sheet.specs.Form.{reason_number};
@@ -7,7 +9,7 @@ ghost use Rattle.numbers.specs.Form.{number_read};
 
 use sheet::Reason;
 
-#[derive(Drop)]
+#[derive(Clone, Copy)]
 pub enum Number {
     Value(u16, usize),
     Refused(Reason, usize),

@@ -22,14 +22,14 @@ use Rattle.alc.specs.Settle as theory
 use Rattle.alc.specs.Settle.{label}
 use Rattle.alc.specs.Seeds.{Ask, asks, bound, expansions, fine, include, include_all, reach, seeds, seed_survives, served, successors, universe}
 use Rattle.alc.specs.Model.{or_blank, chosen, model_seeds, label_at}
-use Rattle.alc.specs.Theorems.Lists.{cases, each-elim, here, same?, there}
-use Rattle.alc.specs.Theorems.Moves.{label-of}
-use Rattle.alc.specs.Theorems.Reach.{include-step, include_all-append}
-use Rattle.alc.specs.Theorems.Counting.{pigeon}
-use Rattle.alc.specs.Theorems.Bound.{length-universe}
-use Rattle.alc.specs.Theorems.Sheet.{WellFormed}
-use Rattle.alc.specs.Theorems.Decides.{chosen-next}
-use Rattle.alc.specs.Theorems.Members.{members-none, Inside, lowest-of, rest_of, rest-each, rest-inside}
+use Rattle.alc.proofs.Theorems.Lists.{cases, each-elim, here, same?, there}
+use Rattle.alc.proofs.Theorems.Moves.{label-of}
+use Rattle.alc.proofs.Theorems.Reach.{include-step, include_all-append}
+use Rattle.alc.proofs.Theorems.Counting.{pigeon}
+use Rattle.alc.proofs.Theorems.Bound.{length-universe}
+use Rattle.alc.proofs.Theorems.Sheet.{WellFormed}
+use Rattle.alc.proofs.Theorems.Decides.{chosen-next}
+use Rattle.alc.proofs.Theorems.Members.{members-none, Inside, lowest-of, rest_of, rest-each, rest-inside}
 use Rattle.tableau.specs.Records.{word_of, label_of, recorded, found_at}
 use Rattle.plan.specs.Plan.{plan_sheet, Prepared}
 use Rattle.tableau.specs.Joints.{joint_of}

@@ -1,5 +1,7 @@
 // The model's seeds in the order first asked for. The records are a set, so that they are swapped to the front, with their marks; no other memory is needed.
 // What is right stands in alc's specs/Model.antt; specs/Sound.antt says which records and marks it starts from, and what a swap keeps.
+#![tactic(auto)]
+
 ghost use Rattle.std.specs.Prelude.{◌≡◌, [], ◌+◌, ◌<◌, ◌≤◌, length};
 ghost use Rattle.alc.specs.Lists.{◌∈◌, each};
 ghost use Rattle.alc.specs.Seeds.{seeds, include, include_all};

@@ -15,10 +15,10 @@ use Rattle.alc.specs.Lists.{up_to}
 use Rattle.alc.specs.Sheet.{Line, top, bottom, name, not, and, or, some, only, Sheet, count, line, operands_below, well_formed, in_limits}
 use Rattle.alc.specs.Label.{same_name, is_name}
 use Rattle.alc.specs.Seeds.{is_quantified}
-use Rattle.alc.specs.Theorems.Bits.{bit-put, bit-put-other, bit-none}
-use Rattle.alc.specs.Theorems.Masks.{nameless}
-use Rattle.alc.specs.Theorems.Lists.{clashing, and_left, and_right, and_both, same?, length_from, map-from, map_same}
-use Rattle.alc.specs.Theorems.Sheet.{well-formed}
+use Rattle.alc.proofs.Theorems.Bits.{bit-put, bit-put-other, bit-none}
+use Rattle.alc.proofs.Theorems.Masks.{nameless}
+use Rattle.alc.proofs.Theorems.Lists.{clashing, and_left, and_right, and_both, same?, length_from, map-from, map_same}
+use Rattle.alc.proofs.Theorems.Sheet.{well-formed}
 use Rattle.sheet.specs.declared.Section.{Section}
 use Rattle.sheet.specs.declared.Sheet.{Sheet as Form}
 use Rattle.sheet.specs.Form.{Triple, triple, line_from, line_of, rule_of, class_of, role_of, triples, sheet_of}

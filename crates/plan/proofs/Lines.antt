@@ -16,9 +16,9 @@ use Rattle.alc.specs.Lists.{◌∈◌, all, up_to}
 use Rattle.alc.specs.Sheet.{Line, top, bottom, name, not, and, or, some, only, Rule, ◌⊑◌, count, line, operands_below, in_limits, most_lines, most_rules}
 use Rattle.alc.specs.Label.{every, when_holds, when_fails, is_top, is_bottom}
 use Rattle.alc.specs.Seeds.{is_quantified}
-use Rattle.alc.specs.Theorems.Bits.{bit-put, bit-put-other, bit-or, bit-ext}
-use Rattle.alc.specs.Theorems.Lists.{tests_same, and_left, and_right, and_both, and-false-left, and-false-right, or_right, length_from, map-from, get_or-in, same?}
-use Rattle.alc.specs.Theorems.Sheet.{well-formed}
+use Rattle.alc.proofs.Theorems.Bits.{bit-put, bit-put-other, bit-or, bit-ext}
+use Rattle.alc.proofs.Theorems.Lists.{tests_same, and_left, and_right, and_both, and-false-left, and-false-right, or_right, length_from, map-from, get_or-in, same?}
+use Rattle.alc.proofs.Theorems.Sheet.{well-formed}
 use Rattle.sheet.specs.Form.{line_from, line_of, rule_of}
 use Rattle.plan.specs.Plan.{entry_from, plan_sheet, is_working, operand_set, Prepared}
 

@@ -15,9 +15,9 @@ use Rattle.alc.specs.Bits.{bit, put}
 use Rattle.alc.specs.Sheet.{Line, count, line}
 use Rattle.alc.specs.Label.{is_top, is_bottom}
 use Rattle.alc.specs.Masks.{shares_name}
-use Rattle.alc.specs.Theorems.Bits.{bit-none, bit-put, bit-put-other}
-use Rattle.alc.specs.Theorems.Lists.{cases, clashing, same?}
-use Rattle.alc.specs.Theorems.Masks.{shares-intro, shares-elim, shares-inside}
+use Rattle.alc.proofs.Theorems.Bits.{bit-none, bit-put, bit-put-other}
+use Rattle.alc.proofs.Theorems.Lists.{cases, clashing, same?}
+use Rattle.alc.proofs.Theorems.Masks.{shares-intro, shares-elim, shares-inside}
 use Rattle.sheet.specs.Form.{line_from}
 use Rattle.plan.specs.Plan.{plan_sheet}
 use Rattle.plan.specs.Laid.{Grouped, shares_at, MasksLaid}

@@ -1,5 +1,5 @@
 -- Walking over the lines of a set: that it is a walk over all lines, and the set of the lines that have a mark and pass a test. Assumes nothing.
-use Prim.Native.Nat.{ℕ, zero, suc, ◌+◌, ◌-◌, ◌^◌, ◌≤◌, ◌<◌}
+use Prim.Native.Nat.{ℕ, zero, suc, ◌+◌, ◌^◌, ◌≤◌, ◌<◌}
 use mathlib.Core.Bool.{Bool, true, false, ◌&&◌, ◌||◌}
 use mathlib.Core.Path.{◌≡◌, refl, sym, ◌∙◌, ap, ap₂}
 use mathlib.Core.Logic.{⊎_elim}
@@ -14,9 +14,9 @@ use Rattle.alc.specs.Sheet.{Line, top, Sheet, count, line}
 use Rattle.alc.specs.declared.Label.{Label}
 use Rattle.alc.specs.declared.Mark.TheVariants.{Holds as holds, Fails as fails}
 use Rattle.alc.specs.Label.{has}
-use Rattle.alc.specs.Theorems.Bits.{bit-or, bit-and}
-use Rattle.alc.specs.Theorems.Lists.{filter-step, up_to-elim, cases, clashing, and_right}
-use Rattle.alc.specs.Theorems.Members.{Inside, each-filter}
+use Rattle.alc.proofs.Theorems.Bits.{bit-or, bit-and}
+use Rattle.alc.proofs.Theorems.Lists.{filter-step, up_to-elim, cases, clashing, and_right}
+use Rattle.alc.proofs.Theorems.Members.{Inside, each-filter}
 
 -- none passes
 filter_none : (p : ℕ → Bool) (a k : ℕ) → ((j : ℕ) → a ≤ j → p j ≡ false) → filter p (from a k) ≡ []

@@ -1,5 +1,7 @@
 // A plan: a sheet laid out flat, so that the search lends one array, with what every step looks up prepared once.
 // What is right stands in alc's specs; specs/Plan.antt says what a plan means, specs/Laid.antt what each step of making one does.
+#![tactic(auto)]
+
 ghost use Rattle.std.specs.Prelude.{◌≡◌, true, ◌&&◌, ℕ, ◌<◌, ◌≤◌, get_or, eqb, ltb};
 ghost use Rattle.alc.specs.Bits.{bit, put};
 ghost use Rattle.alc.specs.Sheet.{line, operands_below, well_formed, in_limits};

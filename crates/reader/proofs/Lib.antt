@@ -1,4 +1,5 @@
--- Laws that several proofs share: entries, the loop over entries, whole sheets.
+-- Laws that several proofs share: entries, the loop over entries, whole sheets. Theorems has the proof that the promise settles the answer.
 pub mod Entries
 pub mod Loop
 pub mod Sheets
+pub mod Theorems

@@ -14,7 +14,7 @@ use Rattle.sheet.specs.declared.Section.{Section}
 use Rattle.sheet.specs.Form.{reason_number, Triple, padded, section_form, triples}
 use Rattle.reader.specs.declared.sections.Stop.TheVariants.{Behind, Refused}
 use Rattle.reader.specs.Parts.{SectionPromise}
-use Rattle.reader.specs.Theorems.{triples-form}
+use Rattle.reader.proofs.Theorems.{triples-form}
 
 -- one entry more in front of the zeros
 pub set-padded : (xs : List ℕ) (i a : ℕ) → length xs ≡ i → i < most_lines → set (padded xs) i a ≡ padded (xs ++ (a ∷ []))

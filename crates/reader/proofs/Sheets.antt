@@ -20,7 +20,7 @@ use Rattle.sheet.specs.declared.Kind.TheVariants.{Lines, Rules, Classes, Roles}
 use Rattle.reader.specs.Parts.{stop_read, reading, SectionPromise, Tidy, section_at, refused_sheet, accepted_sheet, facts_at}
 use Rattle.reader.specs.Promise.{ReadsAs}
 use Rattle.reader.specs.Reading.{then-then, counted-map, roles-give}
-use Rattle.reader.specs.Theorems.{map_back, line-back, sheet-form}
+use Rattle.reader.proofs.Theorems.{map_back, line-back, sheet-form}
 
 module _ {A B : Type 0} (f : A → B) where
   reading-taken : (r : Read A) {b : B} {p : ℕ} → reading f r ≡ taken b p → (a : A) × (r ≡ taken a p) × (f a ≡ b)

@@ -1,5 +1,4 @@
--- What is promised; then what the parts of the reader say, and the theorems.
+-- What is promised; then what the parts of the reader say.
 pub mod Promise
 pub mod Parts
 pub mod Reading
-pub mod Theorems

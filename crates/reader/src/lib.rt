@@ -1,5 +1,7 @@
 // The reader of a sheet's bytes. The first fault answers, with its reason and its place.
 // What is right stands in alc's specs/Bytes.antt; specs/Promise.antt says what the reader promises, sheet's specs/Form.antt what the form means.
+#![tactic(auto)]
+
 pub mod sections; // the entries of a section, and the whole section
 
 ghost use Rattle.std.specs.Prelude.{◌≡◌, map};

@@ -9,21 +9,21 @@ use numbers::{Number, read_below};
 use sheet::{Kind, MOST, Reason, Section, operands};
 
 // The numbers of an entry and the place behind them, or the refusal. Numbers that an entry does not have are 0.
-#[derive(Drop)]
+#[derive(Clone, Copy)]
 pub enum Entry {
     Numbers(u16, u16, u16, usize),
     Refused(Reason, usize),
 }
 
 // The place behind what was read, or the refusal.
-#[derive(Drop)]
+#[derive(Clone, Copy)]
 pub enum Stop {
     Behind(usize),
     Refused(Reason, usize),
 }
 
 // A section and where its reading stopped; under a refusal, the empty section.
-#[derive(Drop)]
+#[derive(Clone, Copy)]
 pub struct SectionRead {
     pub section: Section,
     pub outcome: Stop,

@@ -17,11 +17,11 @@ use Rattle.alc.specs.declared.Mark.{Mark}
 use Rattle.alc.specs.declared.Mark.TheVariants.{Holds as holds, Fails as fails}
 use Rattle.alc.specs.Label.{blank, has, add, add_all, join, handed, pushed}
 use Rattle.alc.specs.Seeds.{seed_of, asks_of, is_quantified}
-use Rattle.alc.specs.Theorems.Bits.{bit-ext}
-use Rattle.alc.specs.Theorems.Lists.{and-false-right, same?, clashing, tests_same, or_cases, or_left, or_right}
-use Rattle.alc.specs.Theorems.Label.{has-blank, has_join}
-use Rattle.alc.specs.Theorems.Members.{members-none, Inside, lowest-of, rest_of, rest-each, rest-inside}
-use Rattle.alc.specs.Theorems.Moves.{add_all-keeps, add_all-has, add_all-cases}
+use Rattle.alc.proofs.Theorems.Bits.{bit-ext}
+use Rattle.alc.proofs.Theorems.Lists.{and-false-right, same?, clashing, tests_same, or_cases, or_left, or_right}
+use Rattle.alc.proofs.Theorems.Label.{has-blank, has_join}
+use Rattle.alc.proofs.Theorems.Members.{members-none, Inside, lowest-of, rest_of, rest-each, rest-inside}
+use Rattle.alc.proofs.Theorems.Moves.{add_all-keeps, add_all-has, add_all-cases}
 use Rattle.seeds.specs.declared.Asked.{Asked}
 use Rattle.seeds.specs.declared.Asked.TheVariants.{Nothing as Nobody, Seed}
 use Rattle.plan.specs.Plan.{plan_sheet, Prepared}

@@ -1,5 +1,7 @@
 // What a settled label hands along a role, and the seeds that it asks for, over a plan of the sheet.
 // What is right stands in alc's specs/Label.antt (handed, pushed) and specs/Seeds.antt; specs/Asks.antt says what the answers mean.
+#![tactic(auto)]
+
 ghost use Rattle.std.specs.Prelude.{◌≡◌, ◌<◌};
 ghost use Rattle.alc.specs.Sheet.{count};
 ghost use Rattle.alc.specs.Label.{blank, add_all, pushed};
@@ -9,7 +11,7 @@ ghost use Rattle.seeds.specs.Asks.{handed_at, asked_at};
 use alc::{Label, Mark};
 
 // What a line asks for: nothing, or a seed along a role.
-#[derive(Drop)]
+#[derive(Clone, Copy)]
 pub enum Asked {
     Nothing,
     Seed(u32, Label),

@@ -13,10 +13,10 @@ use Rattle.alc.specs.Bits.{bit}
 use Rattle.alc.specs.Lists.{from, up_to}
 use Rattle.alc.specs.Sheet.{Rule, Sheet, count, well_formed, lines_well, rules_well, classes_well, roles_well, in_limits, most_rules}
 use Rattle.alc.specs.Causes.{keep_rules, with_rules}
-use Rattle.alc.specs.Theorems.Lists.{and_left, and_right, and_both, all-intro, map_same}
-use Rattle.alc.specs.Theorems.Masks.{masks-moved}
-use Rattle.alc.specs.Theorems.Sheet.{well-formed}
-use Rattle.alc.specs.Theorems.Causes.{kept-well-formed}
+use Rattle.alc.proofs.Theorems.Lists.{and_left, and_right, and_both, all-intro, map_same}
+use Rattle.alc.proofs.Theorems.Masks.{masks-moved}
+use Rattle.alc.proofs.Theorems.Sheet.{well-formed}
+use Rattle.alc.proofs.Theorems.Causes.{kept-well-formed}
 use Rattle.sheet.specs.Form.{triple, line_of, class_of, role_of}
 use Rattle.plan.specs.Plan.{entry_from, entries_from, plan_sheet, Prepared}
 use Rattle.plan.proofs.Lines.{rule_at, rules-are, line-count, lines_fit, rules-fit}

@@ -16,11 +16,11 @@ use Rattle.alc.specs.Lists.{any, filter, up_to}
 use Rattle.alc.specs.Sheet.{Sheet}
 use Rattle.alc.specs.Judge.{first_fine}
 use Rattle.alc.specs.Causes.{with_rules, rule_sets, denial, is_nothing, forces, forcing, no_subset_forces, listed, contradictory, top_bit, slot_of, slots, needs_more, lacks_room}
-use Rattle.alc.specs.Theorems.Lists.{cases, clashing, tests_same, and_left, and_right, and_both, any-intro, any-elim, any_none, any_false, filter-append, filter-length, up_to-intro, up_to-elim, up_to-more, length_from, same?}
-use Rattle.alc.specs.Theorems.Bits.{bit_le}
-use Rattle.alc.specs.Theorems.Sheet.{WellFormed}
-use Rattle.alc.specs.Theorems.Causes.{drop-one, forces-at, forces-mono, forcing-at, no-subset-elim, no-subset-intro}
-use Rattle.alc.specs.Theorems.Answers.{short, causes-short, causes-listed}
+use Rattle.alc.proofs.Theorems.Lists.{cases, clashing, tests_same, and_left, and_right, and_both, any-intro, any-elim, any_none, any_false, filter-append, filter-length, up_to-intro, up_to-elim, up_to-more, length_from, same?}
+use Rattle.alc.proofs.Theorems.Bits.{bit_le}
+use Rattle.alc.proofs.Theorems.Sheet.{WellFormed}
+use Rattle.alc.proofs.Theorems.Causes.{drop-one, forces-at, forces-mono, forcing-at, no-subset-elim, no-subset-intro}
+use Rattle.alc.proofs.Theorems.Answers.{short, causes-short, causes-listed}
 use Rattle.sets.specs.declared.force.Forced.{Forced}
 use Rattle.sets.specs.declared.force.Forced.TheVariants.{Full, Yes, No}
 use Rattle.sets.specs.declared.list.Taken.{Taken}

@@ -13,7 +13,7 @@ use engine::judge::{Verdict, judge, start_joint};
 use tableau::joint::Labels;
 
 // There is no room to tell; the port is forced into the class, or the set is contradictory; or it is not.
-#[derive(Drop)]
+#[derive(Clone, Copy)]
 pub enum Forced {
     Full,
     Yes,

@@ -1,5 +1,7 @@
 // Sets of rules: which of them force a port into a class, and the list of the smallest.
 // What is right stands in alc's specs/Causes.antt; specs/Sets.antt says what the verdict on one set is, and what the list becomes.
+#![tactic(auto)]
+
 pub mod chosen; // a plan with some of its rules
 pub mod force; // the verdict on one set
 pub mod list; // the list of the smallest sets

@@ -33,7 +33,7 @@ fn part_forces(flags: &[bool; SETS], set: u32, rules: u32) -> bool
 }
 
 // There was no room; the set is a cause, catching or contradictory; or it is none.
-#[derive(Drop)]
+#[derive(Clone, Copy)]
 enum Taken {
     Full,
     Catching,
@@ -103,7 +103,7 @@ fn put_slot(list: &mut [u16], at: usize, slot: u16)
 }
 
 // Out of space, or how many causes there are.
-#[derive(Drop)]
+#[derive(Clone, Copy)]
 pub enum Listed {
     Full,
     Causes(usize),

@@ -1,10 +1,12 @@
 // Sheets: the form in which the code holds one, why one is refused, and what a reader of sheets hands back.
 // What is right stands in alc's specs/Sheet.antt and specs/Bytes.antt; specs/Form.antt says what the form means.
+#![tactic(auto)]
+
 ghost use Rattle.std.specs.Prelude.{◌≡◌};
 ghost use Rattle.sheet.specs.Form.{reason_number, operand_count};
 
 // Why the desk refuses, by document 01's numbers 1 to 8.
-#[derive(Drop)]
+#[derive(Clone, Copy)]
 pub enum Reason {
     Cut,
     BadlyFormed,
@@ -17,7 +19,7 @@ pub enum Reason {
 }
 
 // Which section.
-#[derive(Drop)]
+#[derive(Clone, Copy)]
 pub enum Kind {
     Lines,
     Rules,
@@ -33,7 +35,7 @@ pub const MOST: usize = 32;
 
 // The entries of one section, up to three numbers each. Lines: kind, first operand, second operand; rules: c, d, 0;
 // class assertions: individual, line, 0; role assertions: role, from, to. What is not used is 0.
-#[derive(Drop)]
+#[derive(Clone, Copy)]
 pub struct Section {
     pub first: [u16; MOST],
     pub second: [u16; MOST],
@@ -42,7 +44,7 @@ pub struct Section {
 }
 
 // A sheet by value. Its counts and entries have 16 bits, so that a form can break any limit.
-#[derive(Drop)]
+#[derive(Clone, Copy)]
 pub struct Sheet {
     pub lines: Section,
     pub rules: Section,
@@ -51,14 +53,14 @@ pub struct Sheet {
     pub roles: Section,
 }
 
-#[derive(Drop)]
+#[derive(Clone, Copy)]
 pub enum Outcome {
     Accepted,
     Refused(Reason, usize),
 }
 
 // The sheet that was read; under a refusal, the empty one.
-#[derive(Drop)]
+#[derive(Clone, Copy)]
 pub struct Readout {
     pub sheet: Sheet,
     pub outcome: Outcome,

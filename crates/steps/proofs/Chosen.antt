@@ -9,21 +9,17 @@ use native.Mathlib.Nat.{sub-zero, sub-eq-zero_of_le}
 use native.Mathlib.Numerals.{add-one}
 use lib.Bits.{bit_or, bit_and}
 use lib.ListN.{get_or}
-use types.Run.{OneOf}
-use denote.Enum.Declared.{tag_of}
 use Rattle.alc.specs.Bits.{members}
 use Rattle.alc.specs.Lists.{Maybe, nothing, just, first, filter, each, from, up_to}
 use Rattle.alc.specs.Sheet.{Rule, Sheet, count, line}
 use Rattle.alc.specs.declared.Label.{Label}
 use Rattle.alc.specs.declared.Mark.TheVariants.{Holds as holds, Fails as fails}
 use Rattle.alc.specs.Label.{has, Demand, every, either, when_holds, when_fails}
-use Rattle.alc.specs.Theorems.Lists.{filter-step, cases}
-use Rattle.alc.specs.Theorems.Members.{members-none, Inside, lowest-of, rest_of, rest-each, rest-inside}
-use Rattle.steps.specs.declared.step.Choice.{Choice}
+use Rattle.alc.proofs.Theorems.Lists.{filter-step, cases}
+use Rattle.alc.proofs.Theorems.Members.{members-none, Inside, lowest-of, rest_of, rest-each, rest-inside}
 use Rattle.steps.specs.declared.step.Choice.TheVariants.{Nothing}
 use Rattle.plan.specs.Plan.{plan_sheet, is_working, Prepared}
 use Rattle.steps.specs.Choice.{unmet, demands_at, line_demands, rule_demands, choice_of, choice}
-use Rattle.steps.specs.contracts.step.Choice.{the_type}
 use Rattle.plan.proofs.Lines.{no-demand, rule_at, rules-are, lines_fit}
 use Rattle.plan.proofs.Walking.{marked-inside, marked-each}
 
@@ -65,10 +61,6 @@ choice-none (just (either m n)) e = cc
 choice-found : (m n : Maybe Demand) → (choice_of m ≡ Nothing → ⊥) → or_else m n ≡ m
 choice-found nothing n h = absurd (h refl)
 choice-found (just d) n h = refl
-
--- where the code's match came by another arm
-pub not-nothing : {r : Choice} → OneOf (1 ∷ 2 ∷ []) (tag_of the_type r) → r ≡ Nothing → ⊥
-not-nothing {r} k e = ⊎_elim (λ x. omega arith) (λ x. omega arith) (rw e at k)
 
 -- of two lists, the first is passed over where it offers no choice, and is the choice where it does
 module _ (p : Demand → Bool) (xs ys : List Demand) {whole : Maybe Demand} (e : first p (xs ++ ys) ≡ whole) where

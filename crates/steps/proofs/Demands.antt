@@ -13,8 +13,8 @@ use Rattle.alc.specs.Sheet.{Sheet, count, line}
 use Rattle.alc.specs.declared.Label.{Label}
 use Rattle.alc.specs.declared.Mark.{Mark}
 use Rattle.alc.specs.Label.{blank, has, add_all, Demand, every, either, when_holds, when_fails, met, clashes}
-use Rattle.alc.specs.Theorems.Lists.{cases, or_left, or_right, or-false-both}
-use Rattle.alc.specs.Theorems.Models.{no_both}
+use Rattle.alc.proofs.Theorems.Lists.{cases, or_left, or_right, or-false-both}
+use Rattle.alc.proofs.Theorems.Models.{no_both}
 use Rattle.steps.specs.declared.step.Choice.{Choice}
 use Rattle.steps.specs.declared.step.Choice.TheVariants.{Nothing, Every, Either}
 use Rattle.steps.specs.Choice.{wanted_by, demands_at, unmet, choice_of}

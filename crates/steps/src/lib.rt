@@ -1,3 +1,5 @@
 // One label over a plan of the sheet: its next step.
 // What is right stands in alc's specs/Label.antt and specs/Settle.antt; specs/Choice.antt says what the answers mean.
+#![tactic(auto)]
+
 pub mod step; // the first demand that is not met

@@ -10,7 +10,7 @@ ghost use Rattle.steps.specs.Choice.{unmet, line_demands, rule_demands, choice_o
 use alc::{Label, Mark};
 
 // Nothing is left to choose; marks to add; or one of two marks, the first branch first.
-#[derive(Drop)]
+#[derive(Clone, Copy)]
 pub enum Choice {
     Nothing,
     Every(Label),

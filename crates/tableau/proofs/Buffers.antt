@@ -15,11 +15,11 @@ use Rattle.alc.specs.declared.Mark.TheVariants.{Holds as holds, Fails as fails}
 use Rattle.alc.specs.Label.{has}
 use Rattle.alc.specs.Settle.{label}
 use Rattle.alc.specs.Seeds.{Ask, asks_of, asks, seeds, include, include_all, among, served, is_quantified}
-use Rattle.alc.specs.Theorems.Lists.{cases, and_both, and_left, and_right, tests_same, filter-intro, filter-elim, up_to-intro, up_to-elim, same?}
-use Rattle.alc.specs.Theorems.Members.{members-none, Inside, lowest-of, rest_of, rest-each, rest-inside}
-use Rattle.alc.specs.Theorems.Moves.{label-of, label-in}
-use Rattle.alc.specs.Theorems.Seeds.{among_in, among-true}
-use Rattle.alc.specs.Theorems.Reach.{include-step, include_all-append}
+use Rattle.alc.proofs.Theorems.Lists.{cases, and_both, and_left, and_right, tests_same, filter-intro, filter-elim, up_to-intro, up_to-elim, same?}
+use Rattle.alc.proofs.Theorems.Members.{members-none, Inside, lowest-of, rest_of, rest-each, rest-inside}
+use Rattle.alc.proofs.Theorems.Moves.{label-of, label-in}
+use Rattle.alc.proofs.Theorems.Seeds.{among_in, among-true}
+use Rattle.alc.proofs.Theorems.Reach.{include-step, include_all-append}
 use Rattle.tableau.specs.declared.records.Grown.{Grown}
 use Rattle.tableau.specs.declared.records.Grown.TheVariants.{Full, Used}
 use Rattle.seeds.specs.declared.Asked.{Asked}

@@ -11,11 +11,11 @@ use Rattle.alc.specs.declared.Mark.{Mark}
 use Rattle.alc.specs.Label.{line_of, has, add, add_all, join, Demand, every, either, met, clashes}
 use Rattle.alc.specs.Settle.{Joint, label, Move, moves_of, moves, wanted, adds, Next, settled, meet, step, next, follow, settle}
 use Rattle.alc.specs.Seeds.{expansions, seeds, successors}
-use Rattle.alc.specs.Theorems.Lists.{here, or_left, or-false-both, or-false-left, or-false-right, all-fails, Found, found, first-is, each_append}
-use Rattle.alc.specs.Theorems.Sheet.{WellFormed, well-formed}
-use Rattle.alc.specs.Theorems.Moves.{moves-elim, add_all-has, add_all-keeps}
-use Rattle.alc.specs.Theorems.Steps.{unset_in, unset-in-lt, DemandBelow, below-mono}
-use Rattle.alc.specs.Theorems.Settle.{settle-law, wanted-below}
+use Rattle.alc.proofs.Theorems.Lists.{here, or_left, or-false-both, or-false-left, or-false-right, all-fails, Found, found, first-is, each_append}
+use Rattle.alc.proofs.Theorems.Sheet.{WellFormed, well-formed}
+use Rattle.alc.proofs.Theorems.Moves.{moves-elim, add_all-has, add_all-keeps}
+use Rattle.alc.proofs.Theorems.Steps.{unset_in, unset-in-lt, DemandBelow, below-mono}
+use Rattle.alc.proofs.Theorems.Settle.{settle-law, wanted-below}
 use Rattle.steps.specs.declared.step.Choice.{Choice}
 use Rattle.steps.specs.declared.step.Choice.TheVariants.{Nothing, Every, Either}
 use Rattle.steps.specs.Choice.{line_demands, rule_demands, unmet, choice_of, choice}
@@ -38,7 +38,7 @@ FreshBy n l (Every marks) = unset_in n (join l marks) < unset_in n l
 FreshBy n l (Either m k) = Fresh n l m × Fresh n l k
 
 -- a measure t that falls
-pub falls-to : (n t : ℕ) (l x r : Label) → unset_in n l ≡ t → unset_in n x < unset_in n l → r ≡ x → unset_in n r < t
+falls-to : (n t : ℕ) (l x r : Label) → unset_in n l ≡ t → unset_in n x < unset_in n l → r ≡ x → unset_in n r < t
 falls-to n t l x r p h e = rw (e, ← p) h
 
 -- a mark that is new leaves fewer unset
@@ -119,6 +119,17 @@ module _ {p : List ℕ} (ready : Prepared p) (l : Label) (k : Choice) (chosen : 
   pub chosen-expands : clashes (plan_sheet p) l ≡ false → expansions (plan_sheet p) l ≡ expand_by (plan_sheet p) l k
   chosen-expands calm = choice-expands (plan_sheet p) l (well-formed (plan_sheet p) ready.well) calm ∙ ap (expand_by (plan_sheet p) l) (sym chosen)
 
+-- at every call of a walk the marks still unset fall below t, what they are at l
+module _ {p : List ℕ} (ready : Prepared p) (t : ℕ) (l : Label) (level : unset_in 32 l ≡ t) (r : Label) where
+  pub every-falls : {marks : Label} → Every marks ≡ choice (plan_sheet p) l → r ≡ join l marks → unset_in 32 r < t
+  every-falls {marks} e r-is = falls-to 32 t l _ r level (chosen-fresh ready l (Every marks) e) r-is
+
+  pub first-falls : {m n : Mark} → Either m n ≡ choice (plan_sheet p) l → r ≡ add l m → unset_in 32 r < t
+  first-falls {m} {n} e r-is = falls-to 32 t l _ r level (chosen-fresh ready l (Either m n) e).0.1 r-is
+
+  pub second-falls : {m n : Mark} → Either m n ≡ choice (plan_sheet p) l → r ≡ add l n → unset_in 32 r < t
+  second-falls {m} {n} e r-is = falls-to 32 t l _ r level (chosen-fresh ready l (Either m n) e).1.1 r-is
+
 -- ---- the seeds of all of them
 abbrev pub successors_by : Sheet → Label → Choice → List Label
 successors_by s l Nothing = seeds s l
@@ -129,11 +140,15 @@ pub successors-none : (s : Sheet) (l : Label) → expansions s l ≡ [] → succ
 unfolding successors
 successors-none s l e = ap (each (seeds s)) e
 
-pub successors-by : (s : Sheet) (l : Label) (k : Choice) → expansions s l ≡ expand_by s l k → successors s l ≡ successors_by s l k
+successors-by : (s : Sheet) (l : Label) (k : Choice) → expansions s l ≡ expand_by s l k → successors s l ≡ successors_by s l k
 unfolding successors
 successors-by s l Nothing e = ap (each (seeds s)) e ∙ append-nil (seeds s l)
 successors-by s l (Every marks) e = ap (each (seeds s)) e
 successors-by s l (Either m k) e = ap (each (seeds s)) e ∙ each_append (seeds s) (expansions s (add l m)) (expansions s (add l k))
+
+pub chosen-successors : {p : List ℕ} (ready : Prepared p) (l : Label) (k : Choice) → k ≡ choice (plan_sheet p) l → clashes (plan_sheet p) l ≡ false
+    → successors (plan_sheet p) l ≡ successors_by (plan_sheet p) l k
+chosen-successors ready l k chosen calm = successors-by _ l k (chosen-expands ready l k chosen calm)
 
 -- ---- the first of them that passes
 abbrev pub picked_in : Sheet → (Label → Bool) → Label → Picked
@@ -160,13 +175,17 @@ picked-or : (o n : Maybe Label) → picked_of (or_else o n) ≡ else_picked (pic
 picked-or nothing n = refl
 picked-or (just k) n = refl
 
-pub picked-by : (s : Sheet) (p : Label → Bool) (l : Label) (k : Choice) → expansions s l ≡ expand_by s l k → picked_in s p l ≡ picked_by s p l k
+picked-by : (s : Sheet) (p : Label → Bool) (l : Label) (k : Choice) → expansions s l ≡ expand_by s l k → picked_in s p l ≡ picked_by s p l k
 picked-by s p l Nothing e = ap (λ ks. picked_of (first p ks)) e ∙ picked-if l (p l)
 picked-by s p l (Every marks) e = ap (λ ks. picked_of (first p ks)) e
 picked-by s p l (Either m k) e =
     let xs = expansions s (add l m) in
     let ys = expansions s (add l k) in
     ap (λ ks. picked_of (first p ks)) e ∙ ap picked_of (first-append p xs ys) ∙ picked-or (first p xs) (first p ys)
+
+pub chosen-picked : {p : List ℕ} (ready : Prepared p) (l : Label) (k : Choice) → k ≡ choice (plan_sheet p) l → clashes (plan_sheet p) l ≡ false → (q : Label → Bool)
+    → picked_in (plan_sheet p) q l ≡ picked_by (plan_sheet p) q l k
+chosen-picked ready l k chosen calm q = picked-by _ q l k (chosen-expands ready l k chosen calm)
 
 -- ---- how many they are, modulo 2^64
 abbrev pub counted_in : Sheet → Label → ℕ
@@ -177,10 +196,14 @@ counted_by s l Nothing = 1
 counted_by s l (Every marks) = counted_in s (join l marks)
 counted_by s l (Either m k) = (counted_in s (add l m) + counted_in s (add l k)) % 2 ^ 64
 
-pub counted-by : (s : Sheet) (l : Label) (k : Choice) → expansions s l ≡ expand_by s l k → counted_in s l ≡ counted_by s l k
+counted-by : (s : Sheet) (l : Label) (k : Choice) → expansions s l ≡ expand_by s l k → counted_in s l ≡ counted_by s l k
 counted-by s l Nothing e = ap (λ ks. length ks % 2 ^ 64) e
 counted-by s l (Every marks) e = ap (λ ks. length ks % 2 ^ 64) e
 counted-by s l (Either m k) e =
     let xs = expansions s (add l m) in
     let ys = expansions s (add l k) in
     ap (λ ks. length ks % 2 ^ 64) e ∙ ap (λ n. n % 2 ^ 64) (length-append xs ys) ∙ add-mod (length xs) (length ys) (2 ^ 64)
+
+pub chosen-counted : {p : List ℕ} (ready : Prepared p) (l : Label) (k : Choice) → k ≡ choice (plan_sheet p) l → clashes (plan_sheet p) l ≡ false
+    → counted_in (plan_sheet p) l ≡ counted_by (plan_sheet p) l k
+chosen-counted ready l k chosen calm = counted-by _ l k (chosen-expands ready l k chosen calm)

@@ -1,9 +1,6 @@
 -- The next step of a joint label: what each individual chooses, what the role assertions push, and the settled joint labels by it.
 use Rattle.std.proofs.Common.{◌≡◌, ℕ, ◌+◌, ◌<◌, ◌≤◌, Bool, true, false, ◌||◌, List, [], ◌∷◌, map, length, get_or, drop, set, sym, refl, ap, ◌∙◌, subst, ap₂, ⊎_elim, add-one, arith, drop_of_length-le, length-take-le, drop-cons, get_or-take}
-use lib.ListN.{length-map}
-use types.Run.{OneOf}
-use denote.Enum.Declared.{tag_of}
-use Rattle.tableau.specs.contracts.joint.JointStep.{the_type}
+use mathlib.Core.Bool.{not as flip}
 use borrow.Author.Tests.{not-true}
 use Rattle.alc.specs.Lists.{Maybe, nothing, just, all, first, each, up_to}
 use Rattle.alc.specs.Sheet.{Sheet, count}
@@ -13,12 +10,12 @@ use Rattle.alc.specs.declared.Mark.TheVariants.{Holds as holds, Fails as fails}
 use Rattle.alc.specs.Label.{line_of, blank, has, add, add_all, join, Demand, every, either, clashes, pushed}
 use Rattle.alc.specs.Settle as theory
 use Rattle.alc.specs.Settle.{label, Move, push, moves_of, moves, who, wanted, adds, meet, closes, next, follow, settle}
-use Rattle.alc.specs.Theorems.Bits.{put-true}
-use Rattle.alc.specs.Theorems.Lists.{cases, any_none, and_left, and_right, all-intro, Found, found, first-is}
-use Rattle.alc.specs.Theorems.Sheet.{WellFormed, well-formed}
-use Rattle.alc.specs.Theorems.Moves.{label-in, Listed, moves-elim, add_all-has}
-use Rattle.alc.specs.Theorems.Steps.{unset_all, DemandBelow, below-mono}
-use Rattle.alc.specs.Theorems.Settle.{Fits, Less, meet-less, wanted-below, who-below, settle-law}
+use Rattle.alc.proofs.Theorems.Bits.{put-true}
+use Rattle.alc.proofs.Theorems.Lists.{cases, any_none, and_left, and_right, all-intro, Found, found, first-is}
+use Rattle.alc.proofs.Theorems.Sheet.{WellFormed, well-formed}
+use Rattle.alc.proofs.Theorems.Moves.{label-in, Listed, moves-elim, add_all-has}
+use Rattle.alc.proofs.Theorems.Steps.{unset_all, DemandBelow, below-mono}
+use Rattle.alc.proofs.Theorems.Settle.{Fits, Less, meet-less, wanted-below, who-below, settle-law}
 use Rattle.steps.specs.declared.step.Choice.{Choice}
 use Rattle.tableau.specs.declared.joint.Labels.{Labels}
 use Rattle.tableau.specs.declared.joint.JointStep.{JointStep}
@@ -47,14 +44,10 @@ module _ (s : Sheet) (J : theory.Joint) where
       go (every ms) q = let z : ◌≡◌ {A = ℕ} 0 1 = cc in omega arith
       go (either x y) q = let z : ◌≡◌ {A = ℕ} 0 1 = cc in omega arith
 
--- where the code's match came by another arm
-pub not-settled : {r : JointStep} → OneOf (0 ∷ 2 ∷ 3 ∷ []) (tag_of the_type r) → r ≡ Settled → ⊥
-not-settled {r} k e = ⊎_elim (λ x. omega arith) (⊎_elim (λ x. omega arith) (λ x. omega arith)) (rw e at k)
-
 -- ---- the labels of a joint label as the code has it
 -- an array of eight has as many labels as it counts
-pub joint-length : {A : Type 0} (f : Label → A) (j : Labels) → length (map f j.labels) ≡ 8 → j.count ≤ 8 → length (joint_of j) ≡ j.count
-joint-length f j e h = length-take-le j.count j.labels (omega (arith, length-map j.labels f))
+pub joint-length : (j : Labels) → length j.labels ≡ 8 → j.count ≤ 8 → length (joint_of j) ≡ j.count
+joint-length j e h = length-take-le j.count j.labels (omega arith)
 
 -- the label of individual a, as the code reads it
 label_at : (j : Labels) (a : ℕ) → a < j.count → label (joint_of j) a ≡ get_or j.labels a blank
@@ -145,12 +138,23 @@ module _ {p : List ℕ} {j : Labels} {e : ℕ} (g : Inside p j e) where
   pushes = pushed (plan_sheet p) (assertion_at p e).role (get_or j.labels (assertion_at p e).source blank)
 
   module _ {marks more : Label} (m : marks ≡ add_all blank pushes) (q : more ≡ join ahead marks) where
+    adds-is : adds (plan_sheet p) (joint_of j) (push (assertion_at p e)) ≡ flip (all (has ahead) pushes)
+    adds-is =
+        ap₂ (λ (l k : Label). flip (all (has l) (pushed (plan_sheet p) (assertion_at p e).role k)))
+        (label_at j (assertion_at p e).target g.target) (label_at j (assertion_at p e).source g.source)
+
+    found-by : (b : Bool) → all (has ahead) pushes ≡ b
+        → first (adds (plan_sheet p) (joint_of j)) (push (assertion_at p e) ∷ []) ≡ elim b as (λ _. Maybe Move) [ true ↦ nothing | false ↦ just (push (assertion_at p e)) ]
+    found-by true t = ap (λ (w : Bool). elim w as (λ _. Maybe Move) [ true ↦ just (push (assertion_at p e)) | false ↦ nothing ]) (adds-is ∙ ap flip t)
+    found-by false t = ap (λ (w : Bool). elim w as (λ _. Maybe Move) [ true ↦ just (push (assertion_at p e)) | false ↦ nothing ]) (adds-is ∙ ap flip t)
+
     pushed-by : (b : Bool) → all (has ahead) pushes ≡ b
         → elim b as (λ _. JointStep) [ true ↦ Settled | false ↦ Onward (assertion_at p e).target marks ] ≡ step_in (plan_sheet p) (joint_of j) (push (assertion_at p e) ∷ [])
-    pushed-by true t = rw (label_at j (assertion_at p e).target g.target, label_at j (assertion_at p e).source g.source, t, first)
+    pushed-by true t = sym (ap (step_of (plan_sheet p) (joint_of j)) (found-by true t))
     pushed-by false t =
-        rw (label_at j (assertion_at p e).target g.target, label_at j (assertion_at p e).source g.source, t, first, m)
-        (ap (λ (l : Label). Onward (assertion_at p e).target (add_all blank (pushed (plan_sheet p) (assertion_at p e).role l))) (sym (label_at j (assertion_at p e).source g.source)))
+        ap (Onward (assertion_at p e).target)
+        (m ∙ ap (λ (l : Label). add_all blank (pushed (plan_sheet p) (assertion_at p e).role l)) (sym (label_at j (assertion_at p e).source g.source)))
+        ∙ sym (ap (step_of (plan_sheet p) (joint_of j)) (found-by false t))
 
     more-is : more ≡ add_all ahead pushes
     more-is = q ∙ ap (join ahead) m ∙ add_all-join ahead pushes

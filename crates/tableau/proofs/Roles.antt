@@ -5,7 +5,7 @@ use mathlib.Core.List.{map-map}
 use lib.ListN.{length-map}
 use Rattle.alc.specs.Lists.{◌∈◌, up_to}
 use Rattle.alc.specs.Sheet.{RoleAssertion, in_limits, most_roles}
-use Rattle.alc.specs.Theorems.Lists.{and_left, and_right, up_to-intro, length_from, map-from}
+use Rattle.alc.proofs.Theorems.Lists.{and_left, and_right, up_to-intro, length_from, map-from}
 use Rattle.sheet.specs.Form.{role_of}
 use Rattle.plan.specs.Plan.{entry_from, plan_sheet, Prepared}
 use Rattle.tableau.specs.Joints.{assertion_at}

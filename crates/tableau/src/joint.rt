@@ -11,14 +11,14 @@ use seeds::pushed_along;
 use steps::step::{Choice, next_choice};
 
 // The labels of up to eight individuals.
-#[derive(Drop)]
+#[derive(Clone, Copy)]
 pub struct Labels {
     pub labels: [Label; 8],
     pub count: usize,
 }
 
 // A clash; nothing more; marks for an individual; or one of two marks for an individual, the first branch first.
-#[derive(Drop)]
+#[derive(Clone, Copy)]
 pub enum JointStep {
     Clashed,
     Settled,

@@ -1,5 +1,7 @@
 // The tableau: records, the walks over settled labels, and labels worked jointly, by the steps of one label.
 // What is right stands in alc's specs; specs/ here says what records, walks and joint labels mean.
+#![tactic(auto)]
+
 pub mod clash; // the clash test of a label over a plan
 pub mod joint; // labels worked jointly, and their next step
 pub mod records; // labels as records in a lent buffer

@@ -6,7 +6,7 @@ ghost use Rattle.tableau.specs.Records.{word_of, label_of, recorded, found_at, G
 use alc::Label;
 
 // How many records are used; or there is no room.
-#[derive(Drop)]
+#[derive(Clone, Copy)]
 pub enum Grown {
     Full,
     Used(usize),

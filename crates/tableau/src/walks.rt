@@ -13,7 +13,7 @@ use seeds::{Asked, asked_at};
 use steps::step::{Choice, next_choice};
 
 // A settled expansion, or there is none.
-#[derive(Drop)]
+#[derive(Clone, Copy)]
 pub enum Picked {
     Nothing,
     Found(Label),

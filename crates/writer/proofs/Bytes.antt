@@ -13,8 +13,8 @@ use borrow.Author.Tests.{leb-true, leb-false}
 use Rattle.alc.specs.Sheet.{Sheet}
 use Rattle.alc.specs.Bytes.{refused, taken, read_sheet}
 use Rattle.alc.specs.Writing.{groups_within, groups, bytes_for, Wrote, put_bytes, write_read, write_reply}
-use Rattle.alc.specs.Theorems.Lists.{cases, each_append}
-use Rattle.alc.specs.Theorems.Writing.{groups-one, groups-two, groups-three, accepted-short, same-verdict, put-fits, put-long}
+use Rattle.alc.proofs.Theorems.Lists.{cases, each_append}
+use Rattle.alc.proofs.Theorems.Writing.{groups-one, groups-two, groups-three, accepted-short, same-verdict, put-fits, put-long}
 use Rattle.writer.proofs.Laying.{Stands, stands-as, one-laid, two-laid, three-laid}
 
 -- ---- one number

@@ -8,13 +8,13 @@ use lib.ListN.{length, get_or, take, set}
 use borrow.Author.Tests.{lt-leb}
 use Rattle.alc.specs.Lists.{up_to, each}
 use Rattle.alc.specs.Sheet.{most_lines}
-use Rattle.alc.specs.Theorems.Lists.{each_append, up_to-more}
+use Rattle.alc.proofs.Theorems.Lists.{each_append, up_to-more}
 use Rattle.sheet.specs.declared.Kind.{Kind}
 use Rattle.sheet.specs.declared.Kind.TheVariants.{Lines, Rules, Classes, Roles}
 use Rattle.sheet.specs.declared.Section.{Section}
 use Rattle.sheet.specs.declared.Sheet.{Sheet}
 use Rattle.sheet.specs.Form.{Triple, triple, triples, entry_width, entry_numbers, section_numbers, numbers_of}
-use Rattle.writer.specs.Back.{section-entries}
+use Rattle.writer.proofs.Back.{section-entries}
 use Rattle.writer.proofs.Laying.{Stands, stands-as, stands_on, stands_one, one-laid, two-laid, three-laid}
 
 -- ---- an entry, by how many numbers it has

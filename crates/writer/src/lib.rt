@@ -1,6 +1,8 @@
 // The writer of a sheet's bytes, from its form or from its numbers in the sheet's order. The numbers are laid out as bytes first, the reader judges these, and only then is anything written:
 // so the limits stand in the reader alone, and a refusal leaves the buffer as it was.
 // What is right stands in alc's specs/Writing.antt, and of a form in specs/Promise.antt.
+#![tactic(auto)]
+
 pub mod form; // the numbers of a form
 
 ghost use Rattle.std.specs.Prelude.{◌≡◌, ◌++◌, ◌+◌, ◌≤◌, length, take, drop};
@@ -12,7 +14,7 @@ use reader::read_sheet;
 use sheet::{Outcome, Reason, Sheet};
 
 // Written, with the length; a buffer that is too short, with the length wanted; or why and where a reader would refuse.
-#[derive(Drop)]
+#[derive(Clone, Copy)]
 pub enum Written {
     Done(usize),
     Long(usize),

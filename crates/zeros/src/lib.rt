@@ -1,4 +1,6 @@
 // Zeros: a lent buffer of each width, cleared. It rests on nothing.
+#![tactic(auto)]
+
 ghost use Rattle.std.specs.Prelude.{◌≡◌, length, replicate};
 
 pub fn clear_records(records: &mut [u64])
