@@ -1,4 +1,6 @@
 // A program: questions as ask answers them, from another stored input, a long stream of them. It rests on questions, which says how they are asked.
-fn main() {
-    questions::answer_all();
+#![tactic(auto)]
+
+fn main(rt: HostRuntime) {
+    questions::answer_all(&rt, &mut rt.stdin());
 }

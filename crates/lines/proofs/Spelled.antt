@@ -1,13 +1,8 @@
 -- Laws of specs/Words.antt, each as a loop of the code takes it: what is left from a place on says what the whole says. Assumes nothing.
-use Prim.Native.Nat.{ℕ, suc, ◌+◌, ◌-◌, ◌*◌, ◌/◌, ◌%◌, ◌≤◌, ◌<◌}
+use Rattle.std.proofs.Common.{ℕ, suc, ◌+◌, ◌-◌, ◌*◌, ◌/◌, ◌%◌, ◌≤◌, ◌<◌, arith, ◌≡◌, refl, sym, ap, ap₂, subst, ◌∙◌, Bool, true, false, cond, ◌&&◌, List, [], ◌∷◌, ◌++◌, append-nil, length, get_or, take, drop, set, length-set, drop_of_length-le, take-append-drop, ltb, leb, eqb}
 use native.Mathlib.Numerals.{add-one}
-use native.Mathlib.Omega.{arith}
-use mathlib.Core.Path.{◌≡◌, refl, sym, ap, ap₂, subst, ◌∙◌}
-use mathlib.Core.Bool.{Bool, true, false, cond, ◌&&◌, and-false}
-use mathlib.Core.List.{List, [], ◌∷◌, ◌++◌, append-nil}
-use lib.ListN.{length, get_or, take, drop, set, length-set, drop_of_length-le, take-append-drop}
+use mathlib.Core.Bool.{and-false}
 use lib.Seq.{drop-cons, drop-drop, drop-set-lt, take-suc-set, append_snoc, length-take-le}
-use lib.Dec.{ltb, leb, eqb}
 use borrow.Author.Tests.{le-ltb, lt-ltb, le-leb, lt-leb, eq-eqb, ne_eqb}
 use Rattle.lines.specs.declared.words.Said.{Said}
 use Rattle.lines.specs.declared.words.Said.TheVariants.{Nothing, Is}

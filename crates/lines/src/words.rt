@@ -11,6 +11,7 @@ const MOST: u64 = 18446744073709551615;
 const NO_BYTES: usize = 18446744073709551615;
 
 // Whether a byte belongs to these: blanks and tabs, or all others.
+#[tactic(auto, unfolding(crate::specs::Words::passed))]
 fn passes(b: u8, blanks: bool) -> bool
     ensures { result ≡ passed blanks b }
 {
@@ -24,6 +25,7 @@ fn passes(b: u8, blanks: bool) -> bool
 }
 
 // A line without the carriage return at its end.
+#[tactic(auto, unfolding(crate::specs::Words::trimmed_line))]
 pub fn trimmed(line: &[u8]) -> &[u8]
     ensures { result.now ≡ trimmed_line line.now }
 {
@@ -92,6 +94,7 @@ fn same(a: &[u8], b: &[u8]) -> bool
 }
 
 // Whether a line has no words, or its first starts with #.
+#[tactic(auto, unfolding(crate::specs::Words::remark))]
 pub fn says_nothing(line: &[u8]) -> bool
     ensures { result ≡ remark (word_at line.now 0) }
 {
@@ -113,6 +116,7 @@ pub fn asks(line: &[u8], first: &[u8], most: usize) -> bool
 }
 
 // A digit in hexadecimal; 16 for what is none.
+#[tactic(auto, unfolding(crate::specs::Words::digit_of))]
 fn digit(b: u8) -> u8
     ensures { result ≡ digit_of b }
 {
@@ -134,13 +138,14 @@ fn digit(b: u8) -> u8
 }
 
 // The number that a word says, if it says one of 64 bits.
-#[derive(Drop)]
+#[derive(Clone, Copy)]
 pub enum Said {
     Nothing,
     Is(u64),
 }
 
 // A number with one more decimal digit.
+#[tactic(auto, unfolding(crate::specs::Words::with_digit))]
 fn with_digit(n: u64, b: u8) -> Said
     ensures { result ≡ with_digit n (digit_of b) }
 {
@@ -192,6 +197,7 @@ pub fn size(line: &[u8], n: usize) -> usize
 }
 
 // The byte that two hexadecimal digits say; 256 where one is none.
+#[tactic(auto, unfolding(crate::specs::Words::pair_said))]
 fn pair(h: u8, l: u8) -> u16
     ensures { result ≡ pair_said h l }
 {

@@ -1,4 +1,4 @@
-// Buffers of ones, in which zeros are seen as well as what else is written; and such a buffer printed, to the line's end. It rests on lines and io.
+// Buffers of ones, in which zeros are seen as well as what else is written; and such a buffer printed, to the line's end. It rests on lines.
 ghost use Rattle.std.specs.Prelude.{◌≡◌, length};
 
 use lines::print;
@@ -28,81 +28,60 @@ pub fn of_8() -> [u8; 8192]
 }
 
 fn still_32(words: &[u32]) -> bool {
-    let mut i = 0;
-    while i < words.len() {
-        if words[i] != 4294967295 {
-            return false;
-        }
-        i += 1;
-    }
-    true
+    words.iter().all(|word| *word == u32::MAX)
 }
 
 fn still_16(slots: &[u16]) -> bool {
-    let mut i = 0;
-    while i < slots.len() {
-        if slots[i] != 65535 {
-            return false;
-        }
-        i += 1;
-    }
-    true
+    slots.iter().all(|slot| *slot == u16::MAX)
 }
 
 fn still_8(bytes: &[u8]) -> bool {
-    let mut i = 0;
-    while i < bytes.len() {
-        if bytes[i] != 255 {
-            return false;
-        }
-        i += 1;
-    }
-    true
+    bytes.iter().all(|byte| *byte == u8::MAX)
 }
 
-fn untouched() {
-    io::write_all(1, b"untouched\n");
+fn untouched(rt: &impl Print) {
+    print::bytes(rt, b"untouched\n");
 }
 
 // Its words; but `untouched` where it was to be left alone and still has nothing but ones.
-pub fn print_32(words: &[u32], alone: bool) {
+pub fn print_32(rt: &impl Print, words: &[u32], alone: bool) {
     if alone {
         if still_32(words) {
-            return untouched();
+            return untouched(rt);
         }
     }
-    print::words(words);
+    print::words(rt, words);
 }
 
 // Its slots likewise.
-pub fn print_16(slots: &[u16], alone: bool) {
+pub fn print_16(rt: &impl Print, slots: &[u16], alone: bool) {
     if alone {
         if still_16(slots) {
-            return untouched();
+            return untouched(rt);
         }
     }
-    print::slots(slots);
+    print::slots(rt, slots);
 }
 
-fn spoiled() {
-    io::write_all(1, b"spoiled\n");
+fn spoiled(rt: &impl Print) {
+    print::bytes(rt, b"spoiled\n");
 }
 
 // Bytes that were to be left alone.
-pub fn print_alone(bytes: &[u8]) {
+pub fn print_alone(rt: &impl Print, bytes: &[u8]) {
     if still_8(bytes) {
-        return untouched();
+        return untouched(rt);
     }
-    spoiled();
+    spoiled(rt);
 }
 
 // The first n bytes in hexadecimal, where those behind them were to be left alone.
-pub fn print_8(bytes: &[u8], n: usize) {
+pub fn print_8(rt: &impl Print, bytes: &[u8], n: usize) {
     if bytes.len() < n {
-        return spoiled();
+        return spoiled(rt);
     }
     if still_8(&bytes[n..]) {
-        return print::hex(&bytes[0..n]);
+        return print::hex(rt, &bytes[0..n]);
     }
-    spoiled();
+    spoiled(rt);
 }

@@ -1,5 +1,7 @@
 // Every byte string of length 0 to 2 through the reader: how often each refusal comes at each place, as "number place times".
 // tools/slices.py prints what is expected, by a reader of its own.
+#![tactic(auto)]
+
 use reader::read_sheet;
 use sheet::Outcome;
 
@@ -27,55 +29,43 @@ fn slot_of(s: &[u8]) -> usize {
 fn count(times: &mut [u64; SLOTS], s: &[u8]) {
     let slot = slot_of(s);
     if slot < SLOTS {
-        times[slot] = std::num::wrapping_add_u64(times[slot], 1);
+        times[slot] = times[slot].wrapping_add(1);
     }
 }
 
 // All strings of two bytes that begin with this one.
 fn count_pairs(times: &mut [u64; SLOTS], first: u8) {
-    let mut s = [first; 2];
-    let mut b = 0u64;
-    while b < 256 {
-        s[1] = (b % 256) as u8;
-        count(times, &s[..2]);
-        b += 1;
+    for second in 0..=u8::MAX {
+        count(times, &[first, second]);
     }
 }
 
-fn print_slot(slot: usize, times: u64) {
+// A write that fails is let go.
+fn print_slot(rt: &impl Print, slot: usize, times: u64) {
     if times != 0 {
-        io::print_decimal(1, (slot / 4) as u64);
-        io::write_all(1, b" ");
-        io::print_decimal(1, (slot % 4) as u64);
-        io::write_all(1, b" ");
-        io::print_decimal(1, times);
-        io::write_all(1, b"\n");
+        let number = slot / 4;
+        let place = slot % 4;
+        let _ = println!(rt; "{number} {place} {times}");
     }
 }
 
-fn print_all(times: &[u64; SLOTS]) {
-    let mut slot = 0;
-    while slot < SLOTS {
-        print_slot(slot, times[slot]);
-        slot += 1;
+fn print_all(rt: &impl Print, times: &[u64; SLOTS]) {
+    for slot in 0..SLOTS {
+        print_slot(rt, slot, times[slot]);
     }
 }
 
 // The empty string, all of one byte, and all of two.
 fn count_all(times: &mut [u64; SLOTS]) {
-    let mut one = [0u8; 1];
-    count(times, &one[..0]);
-    let mut a = 0u64;
-    while a < 256 {
-        one[0] = (a % 256) as u8;
-        count(times, &one[..1]);
-        count_pairs(times, (a % 256) as u8);
-        a += 1;
+    count(times, &[]);
+    for first in 0..=u8::MAX {
+        count(times, &[first]);
+        count_pairs(times, first);
     }
 }
 
-fn main() {
+fn main(rt: HostRuntime) {
     let mut times = [0u64; SLOTS];
     count_all(&mut times);
-    print_all(&times);
+    print_all(&rt, &times);
 }
