@@ -1,4 +1,4 @@
-/* Bargaindune for C: a writer of sheets and three questions about a sheet, answered by target/staticlib/libdesk.a (`rt staticlib desk` makes it).
+/* Bargaindune for C: a writer of sheets and three questions about a sheet, answered by target/staticlib/libdesk.a (`tools/build desk_c` makes it).
  *
  * docs/FORMAT.md says what a sheet, a model and a cause list are, byte for byte; docs/PROMISES.md says what is proved.
  * The functions take any bytes, any numbers and buffers of any length. What they are proved to do rests on this alone, which C cannot check:

@@ -1,4 +1,4 @@
-//! Links libdesk.a, from the folder that BARGAINDUNE_LIB names, or from where `rt staticlib desk` puts it in this repository.
+//! Links libdesk.a, from the folder that BARGAINDUNE_LIB names, or from where `tools/build desk_c` puts it in this repository.
 use std::path::PathBuf;
 
 fn main() {
@@ -10,7 +10,7 @@ fn main() {
     let archive = folder.join("libdesk.a");
     if !archive.is_file() {
         panic!(
-            "no {}: run `rt staticlib desk` in the repository, or set BARGAINDUNE_LIB to the folder that has it",
+            "no {}: run `tools/build desk_c` in the repository, or set BARGAINDUNE_LIB to the folder that has it",
             archive.display()
         );
     }
