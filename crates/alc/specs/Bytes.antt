@@ -2,7 +2,7 @@
 -- Document 01, "How a sheet is laid out" and the table of "What the desk replies". Definitions only, over lists of any numbers.
 use Rattle.std.specs.Prelude.{ℕ, zero, suc, ◌+◌, ◌-◌, ◌*◌, true, false, ◌||◌, List, [], ◌∷◌, ◌++◌, length, get_or, ltb, eqb}
 use Rattle.alc.specs.Lists.{each}
-use Rattle.alc.specs.Sheet.{Line, top, bottom, name, not, and, or, some, only, Rule, ClassAssertion, RoleAssertion, Sheet, count, most_lines, name_count}
+use Rattle.alc.specs.Sheet.{Line, top, bottom, name, negation, and, or, some, only, Rule, ClassAssertion, RoleAssertion, Sheet, count, most_lines, name_count}
 use Rattle.alc.specs.Sheet.{role_count, most_rules, most_individuals, most_classes, most_roles, ◌⊑◌}
 
 -- what reading gives: a refusal with its number and place, or a value and the place behind it
@@ -44,7 +44,7 @@ unfoldable pub operands_at : List ℕ → ℕ → ℕ → ℕ → Read Line
 operands_at bs own zero p = taken top p
 operands_at bs own (suc zero) p = taken bottom p
 operands_at bs own (suc (suc zero)) p = then (below_at bs name_count 4 p) (λ a q. taken (name a) q)
-operands_at bs own (suc (suc (suc zero))) p = then (below_at bs own 5 p) (λ i q. taken (not i) q)
+operands_at bs own (suc (suc (suc zero))) p = then (below_at bs own 5 p) (λ i q. taken (negation i) q)
 operands_at bs own (suc (suc (suc (suc zero)))) p = then (below_at bs own 5 p) (λ i q. then (below_at bs own 5 q) (λ j t. taken (and i j) t))
 operands_at bs own (suc (suc (suc (suc (suc zero))))) p = then (below_at bs own 5 p) (λ i q. then (below_at bs own 5 q) (λ j t. taken (or i j) t))
 operands_at bs own (suc (suc (suc (suc (suc (suc zero)))))) p = then (below_at bs role_count 4 p) (λ r q. then (below_at bs own 5 q) (λ i t. taken (some r i) t))
@@ -98,7 +98,7 @@ abbrev pub line_bytes : Line → List ℕ
 line_bytes top = 0 ∷ []
 line_bytes bottom = 1 ∷ []
 line_bytes (name a) = 2 ∷ a ∷ []
-line_bytes (not i) = 3 ∷ i ∷ []
+line_bytes (negation i) = 3 ∷ i ∷ []
 line_bytes (and i j) = 4 ∷ i ∷ j ∷ []
 line_bytes (or i j) = 5 ∷ i ∷ j ∷ []
 line_bytes (some r i) = 6 ∷ r ∷ i ∷ []

@@ -4,7 +4,7 @@ use Rattle.std.specs.Prelude.{ℕ, ◌<◌, Bool, true, false, not as flip, ◌&
 use Rattle.std.specs.Int.Bits.{bit_or}
 use Rattle.alc.specs.Bits.{bit, put}
 use Rattle.alc.specs.Lists.{any, all, up_to, each}
-use Rattle.alc.specs.Sheet.{Line, top, bottom, name, not, and, or, some, only, Sheet, count, line}
+use Rattle.alc.specs.Sheet.{Line, top, bottom, name, negation, and, or, some, only, Sheet, count, line}
 use Rattle.alc.specs.Meaning.{Interpretation, truth}
 -- bit i of `holding` is the mark that line i holds, bit i of `failing` that it fails
 pub use Rattle.alc.specs.declared.Label.{Label}
@@ -47,7 +47,7 @@ abbrev pub is_top : Line → Bool
 is_top top = true
 is_top bottom = false
 is_top (name a) = false
-is_top (not i) = false
+is_top (negation i) = false
 is_top (and i j) = false
 is_top (or i j) = false
 is_top (some r i) = false
@@ -57,7 +57,7 @@ abbrev pub is_bottom : Line → Bool
 is_bottom top = false
 is_bottom bottom = true
 is_bottom (name a) = false
-is_bottom (not i) = false
+is_bottom (negation i) = false
 is_bottom (and i j) = false
 is_bottom (or i j) = false
 is_bottom (some r i) = false
@@ -67,7 +67,7 @@ abbrev pub is_name : ℕ → Line → Bool
 is_name a top = false
 is_name a bottom = false
 is_name a (name b) = eqb a b
-is_name a (not i) = false
+is_name a (negation i) = false
 is_name a (and i j) = false
 is_name a (or i j) = false
 is_name a (some r i) = false
@@ -77,7 +77,7 @@ abbrev pub same_name : Line → Line → Bool
 same_name top d = false
 same_name bottom d = false
 same_name (name a) d = is_name a d
-same_name (not i) d = false
+same_name (negation i) d = false
 same_name (and i j) d = false
 same_name (or i j) d = false
 same_name (some r i) d = false
@@ -103,7 +103,7 @@ abbrev pub when_holds : Line → Demand
 when_holds top = every []
 when_holds bottom = every []
 when_holds (name a) = every []
-when_holds (not i) = every (fails i ∷ [])
+when_holds (negation i) = every (fails i ∷ [])
 when_holds (and i j) = every (holds i ∷ holds j ∷ [])
 when_holds (or i j) = either (holds i) (holds j)
 when_holds (some r i) = every []
@@ -114,7 +114,7 @@ abbrev pub when_fails : Line → Demand
 when_fails top = every []
 when_fails bottom = every []
 when_fails (name a) = every []
-when_fails (not i) = every (holds i ∷ [])
+when_fails (negation i) = every (holds i ∷ [])
 when_fails (and i j) = either (fails i) (fails j)
 when_fails (or i j) = every (fails i ∷ fails j ∷ [])
 when_fails (some r i) = every []
@@ -134,7 +134,7 @@ abbrev pub handed : ℕ → Bool → Bool → Line → List Mark
 handed r h f top = []
 handed r h f bottom = []
 handed r h f (name a) = []
-handed r h f (not i) = []
+handed r h f (negation i) = []
 handed r h f (and i j) = []
 handed r h f (or i j) = []
 handed r h f (some q i) = cond (eqb q r && f) (fails i ∷ []) []

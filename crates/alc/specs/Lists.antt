@@ -2,14 +2,12 @@
 -- Definitions only; the laws are in proofs/Theorems/Lists.antt and Counting.antt.
 use Rattle.std.specs.Prelude.{ℕ, zero, suc, ◌<◌, Bool, true, false, ◌&&◌, ◌||◌, eqb}
 use mathlib.Core.List.{List, [], ◌∷◌, ◌++◌, map, Memᴰ}
+-- what is found, or nothing
+pub use Rattle.std.specs.Prelude.{Option as Maybe, None as nothing, Some as just}
 
 infix 50 ◌∈◌
 abbrev pub ◌∈◌ : {A : Type 0} → A → List A → Type 0
 ◌∈◌ a l = Memᴰ a l
-
-pub data Maybe (A : Type 0) : Type 0 where
-  nothing : Maybe A
-  just : A → Maybe A
 
 module _ {A : Type 0} where
   -- a recursive result is bound by `let`, so that it is computed only where it is asked for

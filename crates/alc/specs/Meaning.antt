@@ -2,7 +2,7 @@
 -- Document 01, "What the engine is given": "the domain is not empty. Here it is finite. Two individuals may be one element". Definitions only.
 use Rattle.std.specs.Prelude.{ℕ, zero, suc, ◌<◌, Bool, true, false, not as flip, ◌&&◌, ◌||◌, ◌≡◌}
 use Rattle.alc.specs.Lists.{any, all, up_to}
-use Rattle.alc.specs.Sheet.{Line, top, bottom, name, not, and, or, some, only, Rule, ClassAssertion, RoleAssertion, Sheet, line}
+use Rattle.alc.specs.Sheet.{Line, top, bottom, name, negation, and, or, some, only, Rule, ClassAssertion, RoleAssertion, Sheet, line}
 
 -- elements are the numbers below `size`, of which there is at least one
 pub record Interpretation : Type 0 where
@@ -21,7 +21,7 @@ abbrev pub value : Interpretation → (ℕ → ℕ → Bool) → Line → ℕ �
 value I v top x = true
 value I v bottom x = false
 value I v (name a) x = I.in_name a x
-value I v (not i) x = flip (v i x)
+value I v (negation i) x = flip (v i x)
 value I v (and i j) x = v i x && v j x
 value I v (or i j) x = v i x || v j x
 value I v (some r i) x = any (λ y. I.in_role r x y && v i y) (up_to I.size)

@@ -1,16 +1,13 @@
 -- Seeds: what a settled label asks for, which seeds are reached from which, how many there can be, and which are satisfiable.
--- Document 01, "Labels and the order of the rules", from "A settled label asks for seeds" on. Definitions only.
+-- Document 01, "Labels and the order of the rules", from "A settled label asks for seeds" on. `Ask` is the type of src/lib.rt. Definitions only.
 use Rattle.std.specs.Prelude.{ℕ, zero, suc, ◌-◌, ◌*◌, ◌^◌, ◌<◌, Bool, true, false, cond, ◌&&◌, ◌≡◌, List, [], ◌∷◌, ◌++◌, map, length, eqb, ltb}
 use Rattle.alc.specs.Lists.{any, all, filter, up_to, each, sublists, remove_one}
-use Rattle.alc.specs.Sheet.{Line, top, bottom, name, not, and, or, some, only, Sheet, count, line}
+use Rattle.alc.specs.Sheet.{Line, top, bottom, name, negation, and, or, some, only, Sheet, count, line}
 use Rattle.alc.specs.Meaning.{Interpretation, meets_rules}
 use Rattle.alc.specs.Label.{Mark, holds, fails, Label, blank, has, add_all, pushed, TrueAt}
 use Rattle.alc.specs.Settle.{label, settle}
-
 -- the role along which a seed is asked for, and the seed
-pub record Ask : Type 0 where
-  pub role : ℕ
-  pub seed : Label
+pub use Rattle.alc.specs.declared.Ask.{Ask}
 
 -- the mark that is asked for, "together with" all that goes along the role
 unfoldable pub seed_of : Sheet → Label → ℕ → Mark → Label
@@ -21,7 +18,7 @@ abbrev pub asks_of : Sheet → Label → Bool → Bool → Line → List Ask
 asks_of s l h f top = []
 asks_of s l h f bottom = []
 asks_of s l h f (name a) = []
-asks_of s l h f (not i) = []
+asks_of s l h f (negation i) = []
 asks_of s l h f (and i j) = []
 asks_of s l h f (or i j) = []
 asks_of s l h f (some r i) = cond h (record { role = r; seed = seed_of s l r (holds i) } ∷ []) []
@@ -75,7 +72,7 @@ abbrev pub is_quantified : Line → Bool
 is_quantified top = false
 is_quantified bottom = false
 is_quantified (name a) = false
-is_quantified (not i) = false
+is_quantified (negation i) = false
 is_quantified (and i j) = false
 is_quantified (or i j) = false
 is_quantified (some r i) = true
@@ -96,7 +93,7 @@ abbrev pub asked_mark : Line → Mark
 asked_mark top = holds 0
 asked_mark bottom = holds 0
 asked_mark (name a) = holds 0
-asked_mark (not i) = holds 0
+asked_mark (negation i) = holds 0
 asked_mark (and i j) = holds 0
 asked_mark (or i j) = holds 0
 asked_mark (some r i) = holds i
@@ -106,7 +103,7 @@ abbrev pub handed_mark : Line → Mark
 handed_mark top = holds 0
 handed_mark bottom = holds 0
 handed_mark (name a) = holds 0
-handed_mark (not i) = holds 0
+handed_mark (negation i) = holds 0
 handed_mark (and i j) = holds 0
 handed_mark (or i j) = holds 0
 handed_mark (some r i) = fails i

@@ -1,35 +1,20 @@
 -- What a sheet says, once it is read: lines, rules, individuals, assertions; and what a sheet may say.
--- Document 01, "What the engine is given" and "How a sheet is laid out". Definitions only.
+-- Document 01, "What the engine is given" and "How a sheet is laid out". `Line`, `Rule` and the assertions are the types of src/lib.rt. Definitions only.
 use Rattle.std.specs.Prelude.{ℕ, suc, Bool, true, ◌&&◌, List, length, get_or, ltb}
 use Rattle.alc.specs.Lists.{all, up_to}
-
 -- "0 top; 1 bottom; 2 name; 3 not i; 4 and i j; 5 or i j; 6 some r i; 7 only r i": i, j are lines, r is a role
-pub data Line : Type 0 where
-  top bottom : Line
-  name : ℕ → Line
-  not : ℕ → Line
-  and or : ℕ → ℕ → Line
-  some only : ℕ → ℕ → Line
-
+pub use Rattle.alc.specs.declared.Line.{Line}
+pub use Rattle.alc.specs.declared.Line.TheVariants.{Top as top, Bottom as bottom, Name as name, Not as negation, And as and, Or as or, Some as some, Only as only}
 -- "lines c, d, meaning c ⊑ d"
-pub record Rule : Type 0 where
-  pub sub : ℕ
-  pub sup : ℕ
+pub use Rattle.alc.specs.declared.Rule.{Rule}
+-- "class assertions: individual, line"
+pub use Rattle.alc.specs.declared.ClassAssertion.{ClassAssertion}
+-- "role assertions: role, from, to"
+pub use Rattle.alc.specs.declared.RoleAssertion.{RoleAssertion}
 
 infix 60 ◌⊑◌
 abbrev pub ◌⊑◌ : ℕ → ℕ → Rule
 c ⊑ d = record { sub = c; sup = d }
-
--- "class assertions: individual, line"
-pub record ClassAssertion : Type 0 where
-  pub individual : ℕ
-  pub class : ℕ
-
--- "role assertions: role, from, to"
-pub record RoleAssertion : Type 0 where
-  pub role : ℕ
-  pub source : ℕ
-  pub target : ℕ
 
 pub record Sheet : Type 0 where
   pub lines : List Line
@@ -45,12 +30,22 @@ count s = length s.lines
 abbrev pub line : Sheet → ℕ → Line
 line s i = get_or s.lines i top
 
+-- rule and assertion number i
+abbrev pub rule : Sheet → ℕ → Rule
+rule s i = get_or s.rules i (0 ⊑ 0)
+
+abbrev pub class_assertion : Sheet → ℕ → ClassAssertion
+class_assertion s i = get_or s.classes i (record { individual = 0; class = 0 })
+
+abbrev pub role_assertion : Sheet → ℕ → RoleAssertion
+role_assertion s i = get_or s.roles i (record { role = 0; source = 0; target = 0 })
+
 -- ---- "i, j are smaller than the line's own number"; rules and assertions name lines and individuals that are there
 abbrev pub operands_below : ℕ → Line → Bool
 operands_below n top = true
 operands_below n bottom = true
 operands_below n (name a) = true
-operands_below n (not i) = ltb i n
+operands_below n (negation i) = ltb i n
 operands_below n (and i j) = ltb i n && ltb j n
 operands_below n (or i j) = ltb i n && ltb j n
 operands_below n (some r i) = ltb i n
@@ -97,7 +92,7 @@ abbrev pub line_in_limits : Line → Bool
 line_in_limits top = true
 line_in_limits bottom = true
 line_in_limits (name a) = ltb a name_count
-line_in_limits (not i) = true
+line_in_limits (negation i) = true
 line_in_limits (and i j) = true
 line_in_limits (or i j) = true
 line_in_limits (some r i) = ltb r role_count

@@ -1,13 +1,51 @@
-// A label as a value of its own: the type and the methods that all code above uses. What they mean stands in specs/Label.antt,
-// whose `Label` and `Mark` are these very types; what the clash test looks up stands in specs/Masks.antt. The other files of specs/ are document 01 as definitions; the theorems on them stand in proofs/.
+// Lines, rules, assertions, marks and labels as values of their own: the types and the methods that all code above uses. What they mean stands in
+// specs/Sheet.antt, specs/Label.antt and specs/Seeds.antt, whose `Line`, `Rule`, `ClassAssertion`, `RoleAssertion`, `Label`, `Mark`
+// and `Ask` are these very types; what the clash test looks up stands in specs/Masks.antt. The other files of specs/ are document 01 as definitions; the theorems on them stand in proofs/.
 #![tactic(auto)]
 
-ghost use Rattle.std.specs.Prelude.{◌≡◌, ◌+◌, ◌≤◌, ◌<◌, length, get_or};
+pub mod walk; // the members of a set, one after the other
+
+ghost use Rattle.std.specs.Prelude.{◌≡◌, ◌<◌, get_or};
 ghost use Rattle.alc.specs.Bits.{meets, members};
 ghost use Rattle.alc.specs.Lists.{any};
 ghost use Rattle.alc.specs.Sheet.{Sheet};
 ghost use Rattle.alc.specs.Label.{blank, add, join, has, clashes, line_of};
 ghost use Rattle.alc.specs.Masks.{MasksOf};
+
+use crate::walk::Members;
+
+// A line of a sheet, by document 01's kinds 0 to 7. Names and roles are numbers, operands the numbers of other lines.
+#[derive(Clone, Copy)]
+pub enum Line {
+    Top,
+    Bottom,
+    Name(u32),
+    Not(usize),
+    And(usize, usize),
+    Or(usize, usize),
+    Some(u32, usize),
+    Only(u32, usize),
+}
+
+// The rule sub ⊑ sup.
+#[derive(Clone, Copy)]
+pub struct Rule {
+    pub sub: usize,
+    pub sup: usize,
+}
+
+#[derive(Clone, Copy)]
+pub struct ClassAssertion {
+    pub individual: usize,
+    pub class: usize,
+}
+
+#[derive(Clone, Copy)]
+pub struct RoleAssertion {
+    pub role: u32,
+    pub source: usize,
+    pub target: usize,
+}
 
 // Each line may be marked: it holds, or it fails.
 #[derive(Clone, Copy)]
@@ -17,24 +55,30 @@ pub enum Mark {
 }
 
 // A set of marks: bit i of `holding` is the mark that line i holds, bit i of `failing` that it fails.
-#[derive(Clone, Copy)]
+#[derive(Clone, Copy, PartialEq, Eq)]
 pub struct Label {
     pub holding: u32,
     pub failing: u32,
 }
 
-// The masks of a sheet, one word each: all lines, the bottoms, the tops, the lines that share their name; then for each line its group.
-pub const LINES: usize = 0;
+// What a line of a settled label asks for: a seed, along a role.
+#[derive(Clone, Copy)]
+pub struct Ask {
+    pub role: u32,
+    pub seed: Label,
+}
 
-pub const BOTTOMS: usize = 1;
+// The masks of a sheet: all lines, the bottoms, the tops, the lines that share their name; and for each line its group.
+#[derive(Clone, Copy)]
+pub struct Masks {
+    pub lines: u32,
+    pub bottoms: u32,
+    pub tops: u32,
+    pub shared: u32,
+    pub groups: [u32; 32],
+}
 
-pub const TOPS: usize = 2;
-
-pub const SHARED: usize = 3;
-
-pub const GROUPS: usize = 4;
-
-// The answer of a test, with the label handed back.
+// The answer of the clash test, with the label handed back: document 01 names this form ("test for a clash, handing the state back").
 #[derive(Clone, Copy)]
 pub struct Tested {
     pub label: Label,
@@ -83,68 +127,54 @@ impl Label {
     }
 
     // Is the mark there?
-    pub fn has(self, m: Mark) -> Tested
+    pub fn has(self, m: Mark) -> bool
         requires { line_of m < 32 }
-        ensures { (result.label ≡ self) × (result.found ≡ has self m) }
+        ensures { result ≡ has self m }
     {
-        let found = match m {
+        match m {
             Mark::Holds(i) => (self.holding >> i) % 2 == 1,
             Mark::Fails(i) => (self.failing >> i) % 2 == 1,
-        };
-        Tested {
-            label: self,
-            found: found,
         }
     }
 
-    // Does it clash? By whole words; names are looked at only where marks of both kinds stand on lines that share theirs.
-    pub fn clashes(self, masks: &[u32]) -> Tested
-        requires { 36 ≤ length masks.now }
-        ensures { (result.label ≡ self) × ((s : Sheet) → MasksOf s masks.now 0 → result.found ≡ clashes s self) }
+    // Does it clash?
+    pub fn clashes(self, masks: &Masks) -> Tested
+        ensures { (result.label ≡ self) × ((s : Sheet) → MasksOf s masks.now → result.found ≡ clashes s self) }
+    {
+        Tested {
+            label: self,
+            found: self.marks_clash(masks),
+        }
+    }
+
+    // By whole words; names are looked at only where marks of both kinds stand on lines that share theirs.
+    fn marks_clash(self, masks: &Masks) -> bool
+        ensures { (s : Sheet) → MasksOf s masks.now → result ≡ clashes s self }
     {
         let h = self.holding;
         let f = self.failing;
-        if (h & f & masks[LINES]) | (h & masks[BOTTOMS]) | (f & masks[TOPS]) != 0 {
-            return Tested {
-                label: self,
-                found: true,
-            };
+        if (h & f & masks.lines) | (h & masks.bottoms) | (f & masks.tops) != 0 {
+            return true;
         }
-        let sharing = h & masks[SHARED];
+        let sharing = h & masks.shared;
         if sharing == 0 {
-            return Tested {
-                label: self,
-                found: false,
-            };
+            return false;
         }
-        if f & masks[SHARED] == 0 {
-            return Tested {
-                label: self,
-                found: false,
-            };
+        if f & masks.shared == 0 {
+            return false;
         }
-        let found = group_fails(sharing, f, masks);
-        Tested {
-            label: self,
-            found: found,
-        }
+        group_fails(sharing, f, &masks.groups)
     }
 }
 
 // Does a line of `sharing` have one of its group among those that fail?
-fn group_fails(sharing: u32, failing: u32, masks: &[u32]) -> bool
-    requires { 36 ≤ length masks.now }
-    ensures { result ≡ any (λ i. meets failing (get_or masks.now (4 + i) 0)) (members 32 sharing) }
+fn group_fails(sharing: u32, failing: u32, groups: &[u32; 32]) -> bool
+    ensures { result ≡ any (λ i. meets failing (get_or groups.now i 0)) (members 32 sharing) }
 {
-    let mut left = sharing;
-    while left != 0 {
-        let i = u32::trailing_zeros(left) as usize;
-        let own = 1u32 << i;
-        let group = masks[GROUPS + i];
-        if failing & group != 0 {
+    for i in Members::of(sharing) {
+        if failing & groups[i] != 0 {
             return true;
         }
-        left = left - own;
     }
     false
 }

@@ -1,4 +1,5 @@
 -- What the desk decides: the model's seeds hold all that its elements ask for, its words are put or their length is told, and each verdict is the sheet's answer.
+use Rattle.std.specs.Prelude.{Ok, Err}
 use Prim.Native.Nat.{ℕ, ◌+◌, ◌*◌, ◌≤◌, ◌<◌}
 use mathlib.Core.Path.{◌≡◌, refl, sym, ◌∙◌, ap, subst}
 use mathlib.Core.List.Memᴰ
@@ -8,8 +9,10 @@ use native.Mathlib.Omega.{arith}
 use Rattle.alc.specs.Lists.{all, each}
 use Rattle.alc.specs.Sheet.{Sheet}
 use Rattle.alc.specs.declared.Label.{Label}
+use Rattle.alc.specs.Settle.{settle}
 use Rattle.alc.specs.Settle as theory
-use Rattle.alc.specs.Seeds.{Ask, asks, bound, fine, include_all, seeds}
+use Rattle.alc.specs.declared.Ask.{Ask}
+use Rattle.alc.specs.Seeds.{asks, bound, fine, include_all, seeds}
 use Rattle.alc.specs.Judge.{at_once, considered, settled_joints, start}
 use Rattle.alc.specs.Model as model
 use Rattle.alc.specs.Model.{chosen, model_edges, model_seeds, model_words, satisfy_answer, told}
@@ -18,15 +21,15 @@ use Rattle.alc.proofs.Theorems.Sheet.{WellFormed}
 use Rattle.alc.proofs.Theorems.Reach.{again, grown-in, include_all-grown, reach-closed, successors-known}
 use Rattle.alc.proofs.Theorems.Decides.{chosen-next, nothing_yet}
 use Rattle.alc.proofs.Theorems.Answers.{reply-short, reply-told}
-use Rattle.tableau.specs.declared.joint.Labels.{Labels}
+use Rattle.tableau.specs.declared.labels.Labels.{Labels}
+use Rattle.tableau.specs.declared.records.Full.{Full}
 use Rattle.tableau.specs.Joints.{joint_of, Fit}
 use Rattle.tableau.specs.Records.{recorded}
-use Rattle.engine.specs.declared.judge.Judged.{Judged}
-use Rattle.engine.specs.declared.judge.Verdict.TheVariants.{Full, Going, Fine}
+use Rattle.engine.specs.declared.judge.Judged.TheVariants.{Going, Fine}
 use Rattle.engine.specs.Ledger.{Known}
-use Rattle.engine.specs.Verdicts.{JudgedAll, used_by}
+use Rattle.engine.specs.Verdicts.{JudgedAll}
 use Rattle.engine.proofs.Ledgers.{reached-closed}
-use Rattle.engine.proofs.Told.{found-enough, found_first, lent-enough, needs-more, none-enough, none-fine, told-by}
+use Rattle.engine.proofs.Told.{found_first, lent-enough, needs-more, none-fine, told-by}
 use Rattle.order.specs.Sound.{AllSeedsIn, Complete, Shuffled, Sound}
 use Rattle.model.specs.Laid.{Ready, words_of}
 use Rattle.order.proofs.Orders.{sound-shuffled}
@@ -64,15 +67,15 @@ module _ {s : Sheet} {j : Labels} {used seeds : ℕ} {recs marks : List ℕ} (r 
   pub model-words : words_of s (joint_of j) (recorded seeds recs) ≡ model_words s (joint_of j)
   model-words = ap (words_of s (joint_of j)) is ∙ words_are s (joint_of j)
 
-  pub model-length : length (joint_of j) ≡ j.count → (edges : ℕ) → edges ≡ length (model_edges s (joint_of j) (recorded seeds recs) (chosen s))
-      → 2 + j.count + seeds + 3 * edges ≡ length (model_words s (joint_of j))
-  model-length long edges e =
-      omega (arith, e, long, seeds-length r long, words-length s (joint_of j) (recorded seeds recs), ap length model-words)
+  pub model-length : length (joint_of j) ≡ j.count → (elements edges : ℕ) → elements ≡ j.count + seeds
+      → edges ≡ length (model_edges s (joint_of j) (recorded seeds recs) (chosen s)) → 2 + elements + 3 * edges ≡ length (model_words s (joint_of j))
+  model-length long elements edges n e =
+      omega (arith, n, e, long, seeds-length r long, words-length s (joint_of j) (recorded seeds recs), ap length model-words)
 
 -- ---- the words are put, or their length is told
 module _ (ws before : List ℕ) (n : ℕ) (e : n ≡ length ws) where
-  pub put-words : n ≤ length before → (after : List ℕ) → after ≡ ws ++ drop n before → Put ws before (Model n) after
-  put-words b after h = record { fits = λ _. (ap Model e, h ∙ ap (λ (k : ℕ). ws ++ drop k before) e); long = λ c. absurd (omega arith) }
+  pub put-words : n ≤ length before → {xs after : List ℕ} {m : ℕ} → after ≡ xs ++ drop m before → xs ≡ ws → m ≡ n → Put ws before (Model n) after
+  put-words b h same m = record { fits = λ _. (ap Model e, h ∙ λ i. same i ++ drop ((m ∙ e) i) before); long = λ c. absurd (omega arith) }
 
   pub put-length : length before < n → Put ws before (LongModel n) before
   put-length b = record { fits = λ c. absurd (omega arith); long = λ _. (ap LongModel e, refl) }
@@ -88,36 +91,32 @@ module _ {before : List ℕ} {a : model.Finding} where
   decided-full : a ≡ record { number = 13; out = [] } → Decided a before OutOfSpace before
   decided-full e = rw e (record { ten = λ q. absurd (omega arith); twelve = λ q. absurd (omega arith); thirteen = λ _. (refl, refl) })
 
-module _ {s : Sheet} {J : theory.Joint} {before marks : List ℕ} {r : Judged} {after marks' : List ℕ} (judged : JudgedAll s J 0 before marks r after marks') (begin : J ≡ start s []) where
+module _ {s : Sheet} {J : theory.Joint} {before marks after marks' : List ℕ} (begin : J ≡ start s []) where
   -- there is no room
-  pub answer-full : (out : List ℕ) → r.verdict ≡ Full → Decided (satisfy_answer s (length before)) out OutOfSpace out
-  answer-full out e = decided-full (reply-short s (length before) (needs-more judged [] begin e))
+  pub answer-full : {e : Full} → JudgedAll s (settle s s.roles J) 0 before marks (Err e) after marks' → (out : List ℕ) → Decided (satisfy_answer s (length before)) out OutOfSpace out
+  answer-full judged out = decided-full (reply-short s (length before) (needs-more judged [] begin))
 
-  module _ (n : ℕ) where
-    -- none is fine
-    pub answer-none : (out : List ℕ) → r.verdict ≡ Going n → Decided (satisfy_answer s (length before)) out Unsatisfiable out
-    answer-none out e = decided-none (reply-told s (length before) (none-enough judged [] begin n e) ∙ ap (told s) (none-fine judged [] begin n e))
+  -- none is fine
+  pub answer-none : {n : ℕ} → JudgedAll s (settle s s.roles J) 0 before marks (Ok (Going n)) after marks' → (out : List ℕ) → Decided (satisfy_answer s (length before)) out Unsatisfiable out
+  answer-none judged out = decided-none (reply-told s (length before) (lent-enough judged [] begin) ∙ ap (told s) (none-fine judged [] begin))
 
-    -- one is fine
-    module _ (e : r.verdict ≡ Fine n) where
-      pub found-few : n ≤ length before
-      found-few = lent-enough judged [] begin n (ap used_by e)
+  -- one is fine
+  module _ {n : ℕ} {j : Labels} (judged : JudgedAll s (settle s s.roles J) 0 before marks (Ok (Fine n j)) after marks') where
+    pub found-sound : Sound s n after marks'
+    found-sound =
+        let (ledger, _) = told-by judged [] begin in record {
+          lent = ledger.lent;
+          known = judged.kept.known;
+          closed = reached-closed s (considered s []) (recorded n after) ledger.reached;
+          right = ledger.right;
+        }
 
-      pub found-sound : Sound s n after marks'
-      found-sound =
-          let (ledger, _) = told-by judged [] begin (Fine n) e in record {
-            lent = ledger.lent;
-            known = judged.kept.known n (ap used_by e);
-            closed = reached-closed s (considered s []) (recorded n after) ledger.reached;
-            right = ledger.right;
-          }
+    pub found-asked : AllSeedsIn s (joint_of j) (recorded n after)
+    found-asked k k-in q i =
+        let (ledger, one) = told-by judged [] begin in
+        let (a, a_in, same) = Memᴰ.of_map (λ (a : Ask). a.seed) (asks s k) i in
+        (ledger.reached q).1 (at_once (joint_of j) (up_to_first-found (all (fine s)) (settled_joints s []) (joint_of j) one) k k-in a a_in (sym same))
 
-      pub found-asked : AllSeedsIn s (joint_of r.joint) (recorded n after)
-      found-asked k k-in q i =
-          let (ledger, one) = told-by judged [] begin (Fine n) e in
-          let (a, a_in, same) = Memᴰ.of_map (λ (a : Ask). a.seed) (asks s k) i in
-          (ledger.reached q).1 (at_once (joint_of r.joint) (up_to_first-found (all (fine s)) (settled_joints s []) (joint_of r.joint) one) k k-in a a_in (sym same))
-
-      pub answer-model : (out : List ℕ) (a : Answer) (out' : List ℕ) → Put (model_words s (joint_of r.joint)) out a out' → Decided (satisfy_answer s (length before)) out a out'
-      answer-model out a out' p =
-          decided-put (model_words s (joint_of r.joint)) (reply-told s (length before) (found-enough judged [] begin n e) ∙ ap (told s) (found_first judged [] begin n e)) p
+    pub answer-model : (out : List ℕ) (a : Answer) (out' : List ℕ) → Put (model_words s (joint_of j)) out a out' → Decided (satisfy_answer s (length before)) out a out'
+    answer-model out a out' p =
+        decided-put (model_words s (joint_of j)) (reply-told s (length before) (lent-enough judged [] begin) ∙ ap (told s) (found_first judged [] begin)) p

@@ -7,7 +7,7 @@ use Rattle.answers.specs.declared.Answer.{Answer}
 use Rattle.answers.specs.declared.Answer.TheVariants.{Refused, Model, LongModel, Unsatisfiable, OutOfSpace, Causes, LongList}
 
 abbrev pub answer_number : Answer → ℕ
-answer_number (Refused why at) = reason_number why
+answer_number (Refused r) = reason_number r.why
 answer_number (Model n) = 10
 answer_number (LongModel n) = 11
 answer_number Unsatisfiable = 12
@@ -16,7 +16,7 @@ answer_number (Causes n) = 14
 answer_number (LongList n) = 15
 
 abbrev pub answer_value : Answer → ℕ
-answer_value (Refused why at) = at
+answer_value (Refused r) = r.at
 answer_value (Model n) = n
 answer_value (LongModel n) = n
 answer_value Unsatisfiable = 0

@@ -8,12 +8,12 @@ pub mod query; // the cause list of a port and a class
 ghost use Rattle.std.specs.Prelude.{◌≡◌};
 ghost use Rattle.answers.specs.Answers.{answer_number, answer_value};
 
-use sheet::Reason;
+use sheet::Refusal;
 
 // The answers of document 01, each with what it carries.
 #[derive(Clone, Copy)]
 pub enum Answer {
-    Refused(Reason, usize),
+    Refused(Refusal),
     Model(usize),
     LongModel(usize),
     Unsatisfiable,
@@ -22,12 +22,12 @@ pub enum Answer {
     LongList(usize),
 }
 
-// Document 01's number of an answer.
+// Document 01's number of an answer. It and the next are no `From`: the promises and the pages name these functions.
 pub fn answer_number(a: Answer) -> u64
     ensures { result ≡ answer_number a }
 {
     match a {
-        Answer::Refused(why, _) => sheet::reason_number(why),
+        Answer::Refused(r) => sheet::reason_number(r.why),
         Answer::Model(_) => 10,
         Answer::LongModel(_) => 11,
         Answer::Unsatisfiable => 12,
@@ -42,12 +42,9 @@ pub fn answer_value(a: Answer) -> usize
     ensures { result ≡ answer_value a }
 {
     match a {
-        Answer::Refused(_, at) => at,
-        Answer::Model(words) => words,
-        Answer::LongModel(words) => words,
-        Answer::Unsatisfiable => 0,
-        Answer::OutOfSpace => 0,
-        Answer::Causes(sets) => sets,
-        Answer::LongList(sets) => sets,
+        Answer::Refused(r) => r.at,
+        Answer::Model(words) | Answer::LongModel(words) => words,
+        Answer::Unsatisfiable | Answer::OutOfSpace => 0,
+        Answer::Causes(sets) | Answer::LongList(sets) => sets,
     }
 }

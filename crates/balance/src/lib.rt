@@ -3,38 +3,29 @@
 #![tactic(auto)]
 
 ghost use Rattle.std.specs.Prelude.{◌≡◌, ◌*◌, ◌-◌, ◌^◌, ◌≤◌, pos, ◌-ℤ◌};
-ghost use Rattle.alc.specs.Seeds.{quantifiers};
+ghost use Rattle.alc.specs.Seeds.{is_quantified, quantifiers};
 ghost use Rattle.alc.specs.Promises.{BalancePromise};
-ghost use Rattle.sheet.specs.Form.{sheet_of};
+ghost use Rattle.sheet.specs.Form.{line_of, sheet_of};
 ghost use Rattle.balance.specs.Balance.{margin_balance};
 
+use alc::Line;
 use reader::read_sheet;
-use sheet::{Outcome, Reason, Sheet};
+use sheet::{Entry, Reason, Refusal, Sheet};
 
-// What is left, or the refusal.
-#[derive(Clone, Copy)]
-pub enum Margin {
-    Refused(Reason, usize),
-    Left(i64),
+// Is it a some or only line?
+fn is_quantified(entry: &Entry) -> bool
+    ensures { result ≡ is_quantified (line_of entry.now) }
+{
+    matches!(Line::from(*entry), Line::Some(..) | Line::Only(..))
 }
 
 // How many lines are some or only lines.
-fn quantifiers(sheet: Sheet) -> u64
-    requires { sheet.lines.count ≤ 32 }
-    ensures { (result ≡ quantifiers (sheet_of sheet)) × (result ≤ 32) }
+fn quantifiers(sheet: &Sheet) -> u64
+    requires { sheet.now.lines.count ≤ 32 }
+    ensures { (result ≡ quantifiers (sheet_of sheet.now)) × (result ≤ 32) }
 {
-    let lines = sheet.lines;
-    let kinds = lines.first;
-    let count = lines.count as usize;
-    let mut e: u64 = 0;
-    let mut i: usize = 0;
-    while i < count {
-        if 5 < kinds[i] {
-            e += 1;
-        }
-        i += 1;
-    }
-    e
+    let lines = &sheet.lines.entries[..usize::from(sheet.lines.count)];
+    lines.iter().filter(|entry| is_quantified(entry)).count() as u64
 }
 
 // The records that e such lines can need: e·2^(e-1), and 0 for none.
@@ -48,7 +39,7 @@ fn worst_of(e: u64) -> u64
     e * (1u64 << (e - 1))
 }
 
-// The room minus the bound, exact at and around zero.
+// The room minus the bound, exact at and around zero: document 01 names the form, i64 subtraction.
 fn left_over(room: u64, bound: u64) -> i64
     requires room_bound { room ≤ 4096 }
     requires bound_bound { bound ≤ 68719476736 }
@@ -58,19 +49,15 @@ fn left_over(room: u64, bound: u64) -> i64
 }
 
 // 7 first, then the sheet's fault, then what is left.
-pub fn balance(sheet: &[u8], room: u64) -> Margin
+pub fn balance(sheet: &[u8], room: u64) -> Result<i64, Refusal>
     ensures { BalancePromise sheet.now room (margin_balance result) }
 {
     if 4096 < room {
-        return Margin::Refused(Reason::LentBadly, 0);
+        return Err(Refusal {
+            why: Reason::LentBadly,
+            at: 0,
+        });
     }
-    let read = read_sheet(sheet);
-    let outcome = read.outcome;
-    match outcome {
-        Outcome::Refused(why, at) => Margin::Refused(why, at),
-        Outcome::Accepted => {
-            let form = read.sheet;
-            Margin::Left(left_over(room, worst_of(quantifiers(form))))
-        }
-    }
+    let form = read_sheet(sheet)?;
+    Ok(left_over(room, worst_of(quantifiers(&form))))
 }

@@ -17,8 +17,8 @@ use Rattle.answers.specs.declared.Answer.{Answer}
 use Rattle.answers.specs.declared.Answer.TheVariants.{Model, LongModel, Unsatisfiable, OutOfSpace}
 use Rattle.answers.specs.Answers.{answer_number, answer_value, reply_of, Decided}
 use Rattle.desk.specs.Desk.{lent_read}
-use Rattle.answers.proofs.Queries.{drop-replicate}
 use Rattle.desk.proofs.Opens.{checked-read}
+use Rattle.std.proofs.lemmas.List.{drop-replicate}
 
 -- ---- of any reply
 module _ (rs ms os : List ℕ) where
@@ -51,7 +51,7 @@ decided-reply rs ms os s r out d =
     let a = satisfy_answer s (length rs) in
     let wide : length (replicate {A = ℕ} (length os) 0) ≡ length os = length-replicate (length os) 0 in
     finished-reply rs ms os r out 10 a
-    (λ e f. ends rs ms os r out (Model (length a.out)) a.out (rw (← drop-replicate {A = ℕ} (length a.out) (length os) 0) ((d.ten e).fits (omega arith))))
+    (λ e f. ends rs ms os r out (Model (length a.out)) a.out (rw (← drop-replicate {X = ℕ} (length a.out) (length os) 0) ((d.ten e).fits (omega arith))))
     (λ e f. alone rs ms os r out (LongModel (length a.out)) ((d.ten e).long (omega arith)))
     (λ e. ⊎_elim
     (λ h. ⊎_elim (λ f. absurd (e f)) (λ f. bare rs ms os r out Unsatisfiable f refl (d.twelve f)) h)

@@ -7,7 +7,7 @@ ghost use Rattle.alc.specs.Writing.{WritePromise};
 
 use crate::{causes, satisfy};
 use answers::{answer_number, answer_value};
-use balance::{Margin, balance};
+use balance::balance;
 use sheet::reason_number;
 use writer::{write_numbers, written_number, written_value};
 
@@ -45,20 +45,19 @@ pub fn bargaindune_causes(
 
 // `balance`: 0, which is no number of document 01, with what is left; or the refusal's number, with its place. What is not told is 0.
 pub fn bargaindune_balance(sheet: &[u8], room: u64, carried: &mut u64, left: &mut i64) -> u64
-    ensures balance_promise { result ≡ 0 → BalancePromise sheet.now room (replies.left left.new) × (carried.new ≡ 0) }
-    ensures balance_promise_2 { 0 < result → BalancePromise sheet.now room (replies.faulty result carried.new) × (left.new ≡ pos 0) }
+    ensures left { result ≡ 0 → BalancePromise sheet.now room (replies.left left.new) × (carried.new ≡ 0) }
+    ensures refused { 0 < result → BalancePromise sheet.now room (replies.faulty result carried.new) × (left.new ≡ pos 0) }
 {
-    let margin = balance(sheet, room);
-    match margin {
-        Margin::Refused(why, at) => {
-            *carried = at as u64;
-            *left = 0;
-            reason_number(why)
-        }
-        Margin::Left(rest) => {
+    match balance(sheet, room) {
+        Ok(rest) => {
             *carried = 0;
             *left = rest;
             0
+        }
+        Err(refusal) => {
+            *carried = refusal.at as u64;
+            *left = 0;
+            reason_number(refusal.why)
         }
     }
 }

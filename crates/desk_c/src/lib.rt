@@ -45,8 +45,8 @@ pub extern "C" fn bargaindune_balance(
     carried: &mut u64,
     left: &mut i64,
 ) -> u64
-    ensures balance_promise { result ≡ 0 → BalancePromise sheet.now room (replies.left left.new) × (carried.new ≡ 0) }
-    ensures balance_promise_2 { 0 < result → BalancePromise sheet.now room (replies.faulty result carried.new) × (left.new ≡ pos 0) }
+    ensures left { result ≡ 0 → BalancePromise sheet.now room (replies.left left.new) × (carried.new ≡ 0) }
+    ensures refused { 0 < result → BalancePromise sheet.now room (replies.faulty result carried.new) × (left.new ≡ pos 0) }
 {
     desk::export::bargaindune_balance(sheet, room, carried, left)
 }

@@ -1,42 +1,44 @@
 -- Edges from one element as ascending keys: what a list has with a key more, the loop that puts it there, and that the keys are the model's edges.
-use Prim.Native.Nat.{ℕ, zero, suc, ◌+◌, ◌-◌, ◌/◌, ◌%◌, ◌^◌, ◌≤◌, ◌<◌}
-use mathlib.Core.Bool.{Bool, true, false, ◌&&◌, ◌||◌}
-use mathlib.Core.Path.{◌≡◌, refl, sym, ◌∙◌, ap, subst}
-use mathlib.Core.Logic.{◌⊎◌, inl, inr, ⊎_elim}
+use Prim.Native.Nat.{ℕ, zero, suc, ◌+◌, ◌-◌, ◌/◌, ◌%◌, ◌≤◌, ◌<◌}
+use mathlib.Core.Bool.{Bool, true, false, cond, ◌&&◌, ◌||◌}
+use mathlib.Core.Path.{◌≡◌, refl, sym, ◌∙◌, ap, ap₂, subst}
+use mathlib.Core.Logic.{◌⊎◌, inl, inr, ⊎_elim, ∥∥₁_elim, ∥∥₁_map}
 use mathlib.Core.List.Memᴰ
 use mathlib.Core.List.{List, [], ◌∷◌, ◌++◌, map, append_assoc}
 use native.Mathlib.Numerals.{add-one}
+use native.Mathlib.Bridge.{le_prop}
 use native.Mathlib.Decide.{dec_lt}
 use native.Mathlib.Omega.{arith}
-use lib.ListN.{length, get_or, take, drop, set, length-set, take-append-drop, drop_of_length-le}
-use lib.Seq.{slice, slice-cons, slice_empty, take-suc, take-suc-set, take-take, take-set-lt, drop-set-lt, drop-cons}
+use lib.ListN.{length, get_or, take, drop, set, length-append, length-set, take-append-drop, drop_of_length-le}
+use lib.Seq.{slice, slice-cons, length-take-le, take-suc, take-suc-set, take-take, take-set-lt, drop-set-lt, drop-cons}
 use lib.Dec.{ltb, leb, eqb}
-use lib.Bits.{bit_and, bit_or}
 use borrow.Author.Tests.{leb-true, le-leb, ltb-true, ltb-false, eqb-true, eqb-false, lt-ltb, le-ltb, eq-eqb, ne_eqb}
-use Rattle.alc.specs.Bits.{bit, members}
+use Rattle.std.specs.Prelude.{Option as Maybe}
+use Rattle.std.specs.Option.{unwrap_or}
 use Rattle.alc.specs.Lists.{◌∈◌, Ascending, Distinct, any, each, up_to}
-use Rattle.alc.specs.Sheet.{Line, top, bottom, name, not, and, or, some, only, RoleAssertion, Sheet, count, line, line_in_limits, in_limits, role_count}
+use Rattle.alc.specs.declared.Line.{Line}
+use Rattle.alc.specs.declared.Line.TheVariants.{Top as top, Bottom as bottom, Name as name, Not as negation, And as and, Or as or, Some as some, Only as only}
+use Rattle.alc.specs.declared.RoleAssertion.{RoleAssertion}
+use Rattle.alc.specs.Sheet.{Sheet, count, line, role_assertion, line_in_limits, well_formed, in_limits, role_count}
 use Rattle.alc.specs.declared.Label.{Label}
 use Rattle.alc.specs.declared.Mark.TheVariants.{Holds as holds, Fails as fails}
 use Rattle.alc.specs.Label.{has}
 use Rattle.alc.specs.Settle.{Joint, label}
-use Rattle.alc.specs.Seeds.{Ask, asks_of, asks, same}
+use Rattle.alc.specs.declared.Ask.{Ask}
+use Rattle.alc.specs.Seeds.{seed_of, asks_of, asks, same}
 use Rattle.alc.specs.Model.{leads, asserted}
-use Rattle.alc.proofs.Theorems.Lists.{cases, and_left, and_right, and_both, or_left, or_right, or_cases, here, there, cond-elim, cond-intro, any-intro, any-elim, each-intro, each-elim, up_to-elim, filter-length, length_from, get_or-in}
-use Rattle.alc.proofs.Theorems.Members.{members-none, Inside, lowest-of, rest_of, rest-members, rest-each, rest-inside}
-use Rattle.alc.proofs.Theorems.Sheet.{WellFormed, well-formed, lines-limited, roles-limited}
+use Rattle.alc.proofs.Theorems.Lists.{cases, and_left, and_right, and_both, or_left, or_right, or_cases, here, there, cond-elim, cond-intro, any-intro, any-elim, each-intro, each-elim, up_to-elim, length_from, get_or-in}
+use Rattle.alc.proofs.Theorems.Sheet.{WellFormed, lines-limited, roles-limited}
 use Rattle.alc.proofs.Theorems.Moves.{label-of}
 use Rattle.alc.proofs.Theorems.Seeds.{same_true, same_refl}
 use Rattle.alc.proofs.Theorems.Sorted.{Sorted, sorted-unique}
 use Rattle.alc.proofs.Theorems.Words.{Earlier, earlier-once, leaving, leaving-elim, leaving-intro, leaving-sorted}
-use Rattle.edges.specs.declared.Edges.{Edges}
-use Rattle.plan.specs.Plan.{plan_sheet, Prepared}
-use Rattle.seeds.specs.Asks.{asked_of, asked_at}
-use Rattle.tableau.specs.Records.{word_of, recorded, place_from, found_at}
-use Rattle.tableau.specs.Joints.{assertion_at}
-use Rattle.edges.specs.Keys.{SeedsIn, key_of, keys_of, insert_key, insert_keys, ask_key, keys_asked, RoleBelow, keys_along, edge_of, edges_from}
-use Rattle.tableau.proofs.Roles.{role-count, role-is, role-in, roles-fit}
-use Rattle.tableau.proofs.Buffers.{length-recorded, record-at, found-label, in-found, distinct-place, asking, asking-inside, asks-all}
+use Rattle.edges.specs.declared.keys.Edges.{Edges}
+use Rattle.edges.specs.declared.recorded.Recorded.{Recorded}
+use Rattle.tableau.specs.Records.{word_of, recorded, place_from, found_at, found}
+use Rattle.edges.specs.Keys.{SeedsIn, key_of, keys_of, insert_key, insert_keys, ask_key, keys_along, edge_of, edges_from}
+use Rattle.plan.proofs.Lines.{few, role-inside}
+use Rattle.tableau.proofs.Buffers.{length-recorded, record-at, found-is, found-label, in-found, distinct-place}
 
 -- ---- one key more
 insert-before : (k x : ℕ) (xs : List ℕ) → k < x → insert_key k (x ∷ xs) ≡ k ∷ x ∷ xs
@@ -93,6 +95,14 @@ insert-front : (x : ℕ) (xs : List ℕ) → Ascending (x ∷ xs) → insert_key
 insert-front x [] a = refl
 insert-front x (y ∷ ys) a = insert-before x y ys (a.0 y here)
 
+-- the edges' fact, which is one at most
+pub ascending-of : (xs : List ℕ) → ∥ Ascending xs ∥₁ → Ascending xs
+ascending-of [] t = tt
+ascending-of (x ∷ xs) t = ((λ y m. ∥∥₁_elim t le_prop (λ a. a.0 y m)), ascending-of xs (∥∥₁_map t (λ a. a.1)))
+
+pub rises-as : (key : ℕ) (xs ys : List ℕ) → Ascending xs → ys ≡ insert_key key xs → ∥ Ascending ys ∥₁
+rises-as key xs ys a e = ∣ subst Ascending (sym e) (insert-rises key xs a) ∣₁
+
 -- ---- many keys more
 inserts-append : (ks xs ys : List ℕ) → insert_keys ks (xs ++ ys) ≡ insert_keys (insert_keys ks xs) ys
 inserts-append ks [] ys = refl
@@ -116,85 +126,81 @@ inserts-intro ks (k ∷ more) y h =
     inserts-intro (insert_key k ks) more y
     (⊎_elim (λ m. inl (insert-intro k ks y (inr m))) (λ m. ⊎_elim (λ e. inl (insert-intro k ks y (inl e))) inr (Memᴰ.cases_cons m)) h)
 
--- ---- the loop of one key: those before place i are laid, and `more` is to go among those from there on
-pub record Shifting (key : ℕ) (e next : Edges) (more i : ℕ) : Type 0 where
-  pub fits : i ≤ e.count
-  pub count : next.count ≡ e.count
-  pub size : length next.keys ≡ length e.keys
-  pub behind : slice i e.count next.keys ≡ slice i e.count e.keys
-  pub rises : Ascending (slice i e.count e.keys)
-  pub rest : take i next.keys ++ insert_key more (slice i e.count e.keys) ≡ insert_key key (keys_of e)
+-- ---- the loop of one key, over the keys xs: those before place i are laid, and `more` is to go among those from there on
+pub record Shifting (key : ℕ) (xs keys : List ℕ) (more i : ℕ) : Type 0 where
+  pub room : length xs < length keys
+  pub behind : slice i (length xs) keys ≡ drop i xs
+  pub rises : Ascending (drop i xs)
+  pub rest : take i keys ++ insert_key more (drop i xs) ≡ insert_key key xs
 
-pub shifting : (key : ℕ) (e : Edges) → Ascending (keys_of e) → Shifting key e e key 0
-shifting key e a = record { fits = omega arith; count = refl; size = refl; behind = refl; rises = a; rest = refl }
+pub shifting : (key : ℕ) (xs keys : List ℕ) (n : ℕ) → xs ≡ take n keys → n < length keys → Ascending xs → Shifting key xs keys key 0
+shifting key xs keys n e b a =
+    let long : length xs ≡ n = ap length e ∙ length-take-le n keys (omega arith) in
+    record { room = omega arith; behind = ap (λ (k : ℕ). take k keys) long ∙ sym e; rises = a; rest = refl }
 
-module _ {key : ℕ} {e next : Edges} {more i : ℕ} (g : Shifting key e next more i) (room : e.count < length e.keys) where
+module _ {key : ℕ} {xs keys : List ℕ} {more i : ℕ} (g : Shifting key xs keys more i) where
   -- the end: `more` is the last
-  pub shifted : e.count ≤ i → take (i + 1) (set next.keys i more) ≡ insert_key key (keys_of e)
-  shifted h =
-      let last : i ≡ e.count = omega (arith, g.fits) in
-      let none : slice i e.count e.keys ≡ [] = ap (λ (n : ℕ). slice n e.count e.keys) last ∙ slice_empty e.count e.keys in
-      rw (add-one i) (take-suc-set next.keys i more (omega (arith, g.fits, g.size)) ∙ ap (λ (l : List ℕ). take i next.keys ++ insert_key more l) (sym none) ∙ g.rest)
+  pub shifted : i ≡ length xs → (n : ℕ) → n ≡ length xs → take (n + 1) (set keys n more) ≡ insert_key key xs
+  shifted e n q =
+      let none : drop i xs ≡ [] = drop_of_length-le xs (omega arith) in
+      let here : n ≡ i = omega arith in
+      rw (add-one n) (take-suc-set keys n more (omega (arith, g.room)) ∙ ap (λ (k : ℕ). take k keys ++ (more ∷ [])) here ∙ ap (λ (l : List ℕ). take i keys ++ insert_key more l) (sym none) ∙ g.rest)
 
-  module _ (h : i < e.count) where
-    parts : slice i e.count e.keys ≡ get_or e.keys i 0 ∷ slice (suc i) e.count e.keys
-    parts = slice-cons i e.count e.keys 0 h (omega arith)
+  module _ (h : i < length xs) where
+    parts : drop i xs ≡ get_or xs i 0 ∷ drop (suc i) xs
+    parts = drop-cons xs i 0 h
 
-    both : ◌≡◌ {A = List ℕ} (get_or next.keys i 0 ∷ slice (suc i) e.count next.keys) (get_or e.keys i 0 ∷ slice (suc i) e.count e.keys)
-    both = sym (slice-cons i e.count next.keys 0 h (omega (arith, g.size))) ∙ g.behind ∙ parts
+    both : ◌≡◌ {A = List ℕ} (get_or keys i 0 ∷ slice (suc i) (length xs) keys) (get_or xs i 0 ∷ drop (suc i) xs)
+    both = sym (slice-cons i (length xs) keys 0 h (omega (arith, g.room))) ∙ g.behind ∙ parts
 
-    whole : take i next.keys ++ insert_key more (get_or e.keys i 0 ∷ slice (suc i) e.count e.keys) ≡ insert_key key (keys_of e)
-    whole = ap (λ (l : List ℕ). take i next.keys ++ insert_key more l) (sym parts) ∙ g.rest
+    whole : take i keys ++ insert_key more (get_or xs i 0 ∷ drop (suc i) xs) ≡ insert_key key xs
+    whole = ap (λ (l : List ℕ). take i keys ++ insert_key more l) (sym parts) ∙ g.rest
 
-    rises-on : Ascending (get_or e.keys i 0 ∷ slice (suc i) e.count e.keys)
+    rises-on : Ascending (get_or xs i 0 ∷ drop (suc i) xs)
     rises-on = subst Ascending parts g.rises
 
     -- place i is laid, by x
-    laid : (keys : List ℕ) (x : ℕ) (ys : List ℕ) → take (suc i) keys ≡ take i next.keys ++ (x ∷ []) → x ∷ ys ≡ insert_key more (get_or e.keys i 0 ∷ slice (suc i) e.count e.keys)
-        → take (suc i) keys ++ ys ≡ insert_key key (keys_of e)
-    laid keys x ys p q = ap (λ (l : List ℕ). l ++ ys) p ∙ append_assoc (take i next.keys) (x ∷ []) ys ∙ ap (λ (l : List ℕ). take i next.keys ++ l) q ∙ whole
+    laid : (new : List ℕ) (x : ℕ) (ys : List ℕ) → take (suc i) new ≡ take i keys ++ (x ∷ []) → x ∷ ys ≡ insert_key more (get_or xs i 0 ∷ drop (suc i) xs)
+        → take (suc i) new ++ ys ≡ insert_key key xs
+    laid new x ys p q = ap (λ (l : List ℕ). l ++ ys) p ∙ append_assoc (take i keys) (x ∷ []) ys ∙ ap (λ (l : List ℕ). take i keys ++ l) q ∙ whole
 
     -- the key is there
-    pub shift-there : get_or e.keys i 0 ≡ more → keys_of next ≡ insert_key key (keys_of e)
-    shift-there q =
-        ap (λ (n : ℕ). take n next.keys) g.count
-        ∙ sym (take-append-drop i (take e.count next.keys))
-        ∙ ap (λ (l : List ℕ). l ++ slice i e.count next.keys) (take-take i e.count next.keys g.fits)
-        ∙ ap (λ (l : List ℕ). take i next.keys ++ l) (g.behind ∙ parts ∙ sym (insert-same more (get_or e.keys i 0) (slice (suc i) e.count e.keys) (sym q)))
+    pub shift-there : get_or xs i 0 ≡ more → (n : ℕ) → n ≡ length xs → take n keys ≡ insert_key key xs
+    shift-there q n e =
+        ap (λ (k : ℕ). take k keys) e
+        ∙ sym (take-append-drop i (take (length xs) keys))
+        ∙ ap (λ (l : List ℕ). l ++ slice i (length xs) keys) (take-take i (length xs) keys (omega arith))
+        ∙ ap (λ (l : List ℕ). take i keys ++ l) (g.behind ∙ parts ∙ sym (insert-same more (get_or xs i 0) (drop (suc i) xs) (sym q)))
         ∙ whole
 
     -- the key stands behind this one
-    pub shift-on : (get_or e.keys i 0 ≡ more → ⊥) → get_or e.keys i 0 ≤ more → Shifting key e next more (i + 1)
+    pub shift-on : (get_or xs i 0 ≡ more → ⊥) → get_or xs i 0 ≤ more → Shifting key xs keys more (i + 1)
     shift-on q b =
-        let ys = insert_key more (slice (suc i) e.count e.keys) in
+        let ys = insert_key more (drop (suc i) xs) in
         rw (add-one i) (record {
-          fits = omega arith;
-          count = g.count;
-          size = g.size;
+          room = g.room;
           behind = ap (drop 1) both;
           rises = rises-on.1;
-          rest = laid next.keys (get_or next.keys i 0) ys (take-suc next.keys i 0 (omega (arith, g.size)))
-              (ap (λ (l : List ℕ). get_or l 0 0 ∷ ys) both ∙ sym (insert-behind more (get_or e.keys i 0) (slice (suc i) e.count e.keys) (omega arith)));
+          rest = laid keys (get_or keys i 0) ys (take-suc keys i 0 (omega (arith, g.room)))
+              (ap (λ (l : List ℕ). get_or l 0 0 ∷ ys) both ∙ sym (insert-behind more (get_or xs i 0) (drop (suc i) xs) (omega arith)));
         })
 
     -- it goes here, and this one further on
-    pub shift-here : more < get_or e.keys i 0 → Shifting key e (record { keys = set next.keys i more; count = next.count }) (get_or e.keys i 0) (i + 1)
+    pub shift-here : more < get_or xs i 0 → Shifting key xs (set keys i more) (get_or xs i 0) (i + 1)
     shift-here b =
-        let x = get_or e.keys i 0 in
-        let others = slice (suc i) e.count e.keys in
+        let x = get_or xs i 0 in
+        let others = drop (suc i) xs in
         rw (add-one i) (record {
-          fits = omega arith;
-          count = g.count;
-          size = length-set next.keys i more ∙ g.size;
-          behind = ap (drop (suc i)) (take-set-lt e.count next.keys i more h) ∙ drop-set-lt (suc i) (take e.count next.keys) i more (omega arith) ∙ ap (drop 1) both;
+          room = omega (arith, g.room, length-set keys i more);
+          behind = ap (drop (suc i)) (take-set-lt (length xs) keys i more h) ∙ drop-set-lt (suc i) (take (length xs) keys) i more (omega arith) ∙ ap (drop 1) both;
           rises = rises-on.1;
-          rest = laid (set next.keys i more) more (insert_key x others) (take-suc-set next.keys i more (omega (arith, g.size)))
+          rest = laid (set keys i more) more (insert_key x others) (take-suc-set keys i more (omega (arith, g.room)))
               (ap {B = List ℕ} (λ l. more ∷ l) (insert-front x others rises-on) ∙ sym (insert-before more x others b));
         })
 
--- ---- what a line asks for
+-- ---- what a label asks for
 -- a word is found within, or at the end
-pub found_within : (buf : List ℕ) (used w : ℕ) → found_at buf used w ≤ used
+found_within : (buf : List ℕ) (used w : ℕ) → found_at buf used w ≤ used
 unfolding found_at
 found_within buf used w = omega (arith, go 0 used)
   where
@@ -206,91 +212,96 @@ found_within buf used w = omega (arith, go 0 used)
         (λ (e : eqb (get_or buf i 0) w ≡ false). rw (e, place_from) (omega (arith, go (suc i) k)))
         (cases (eqb (get_or buf i 0) w))
 
+-- the place that is found, or else the end
+pub found_place : (buf : List ℕ) (used w : ℕ) → used ≤ length buf → (unwrap_or (found buf used w) used ≡ found_at buf used w) × (found_at buf used w ≤ used)
+found_place buf used w fits =
+    let p = found_at buf used w in
+    let h = found_within buf used w in (
+      ap (λ (o : Maybe ℕ). unwrap_or o used) (found-is buf w used fits)
+          ∙ ⊎_elim
+          (λ (e : ltb p used ≡ true). rw e refl)
+          (λ (e : ltb p used ≡ false). rw e (omega (arith, h, ltb-false p used e)))
+          (cases (ltb p used)),
+      h,
+    )
+
 -- roles are below 8
 line-role : (s : Sheet) (l : Label) (h f : Bool) (c : Line) → line_in_limits c ≡ true → (q : Ask) → q ∈ asks_of s l h f c → q.role < role_count
 line-role s l h f top e q m = absurd (Memᴰ.not-nil m)
 line-role s l h f bottom e q m = absurd (Memᴰ.not-nil m)
 line-role s l h f (name a) e q m = absurd (Memᴰ.not-nil m)
-line-role s l h f (not i) e q m = absurd (Memᴰ.not-nil m)
+line-role s l h f (negation i) e q m = absurd (Memᴰ.not-nil m)
 line-role s l h f (and i j) e q m = absurd (Memᴰ.not-nil m)
 line-role s l h f (or i j) e q m = absurd (Memᴰ.not-nil m)
 line-role s l h f (some r i) e q m = rw (cond-elim h m).1 (ltb-true r role_count e)
 line-role s l h f (only r i) e q m = rw (cond-elim f m).1 (ltb-true r role_count e)
 
+one-most : {A : Type 0} (b : Bool) (x : A) → length (cond b (x ∷ []) []) ≤ 1
+one-most true x = omega arith
+one-most false x = omega arith
+
+-- a line asks for one seed at most
+line-asks : (s : Sheet) (l : Label) (h f : Bool) (c : Line) → length (asks_of s l h f c) ≤ 1
+line-asks s l h f top = omega arith
+line-asks s l h f bottom = omega arith
+line-asks s l h f (name a) = omega arith
+line-asks s l h f (negation i) = omega arith
+line-asks s l h f (and i j) = omega arith
+line-asks s l h f (or i j) = omega arith
+line-asks s l h f (some r i) = one-most h (record { role = r; seed = seed_of s l r (holds i) })
+line-asks s l h f (only r i) = one-most f (record { role = r; seed = seed_of s l r (fails i) })
+
+each-most-one : {A B : Type 0} (f : A → List B) (xs : List A) → ((x : A) → length (f x) ≤ 1) → length (each f xs) ≤ length xs
+each-most-one f [] h = omega arith
+each-most-one f (x ∷ xs) h = omega (arith, length-append (f x) (each f xs), h x, each-most-one f xs h)
+
 module _ (s : Sheet) (lim : in_limits s ≡ true) (l : Label) where
-  role-at : (i : ℕ) → i < count s → (q : Ask) → q ∈ asks_of s l (has l (holds i)) (has l (fails i)) (line s i) → q.role < role_count
-  role-at i b = line-role s l (has l (holds i)) (has l (fails i)) (line s i) (lines-limited s lim (line s i) (get_or-in s.lines i top b))
-
-  pub asked-role : (i : ℕ) → i < count s → RoleBelow (asked_at s l i)
-  unfolding asked_at
-  asked-role i b = go (asks_of s l (has l (holds i)) (has l (fails i)) (line s i)) (role-at i b)
-    where
-      go : (qs : List Ask) → ((q : Ask) → q ∈ qs → q.role < role_count) → RoleBelow (asked_of qs)
-      go [] h = tt
-      go (q ∷ qs) h = h q here
-
   asks-role : (q : Ask) → q ∈ asks s l → q.role < role_count
   unfolding asks
   asks-role q m =
       let (i, i-in, k) = each-elim (λ i. asks_of s l (has l (holds i)) (has l (fails i)) (line s i)) (up_to (count s)) m in
-      role-at i (up_to-elim (count s) i i-in) q k
+      line-role s l (has l (holds i)) (has l (fails i)) (line s i) (lines-limited s lim (line s i) (get_or-in s.lines i top (up_to-elim (count s) i i-in))) q k
+
+  asks-few : length (asks s l) ≤ 32
+  unfolding asks
+  asks-few = omega (
+    arith,
+    (few lim).lines,
+    length_from 0 (count s),
+    each-most-one (λ i. asks_of s l (has l (holds i)) (has l (fails i)) (line s i)) (up_to (count s)) (λ i. line-asks s l (has l (holds i)) (has l (fails i)) (line s i)),
+  )
 
 -- ---- the loop over what is asked for: what is left to put in is the whole
-module _ (p : List ℕ) (l : Label) (first seeds : ℕ) (recs : List ℕ) where
-  abbrev pub keys_at : ℕ → List ℕ
-  keys_at i = keys_asked first seeds recs (asked_at (plan_sheet p) l i)
+pub record Asking (key : Ask → ℕ) (all rest : List Ask) (edges : Edges) : Type 0 where
+  pub few : edges.count + length rest ≤ 32
+  pub roles : (q : Ask) → q ∈ rest → q.role < role_count
+  pub whole : insert_keys (keys_of edges) (map key rest) ≡ insert_keys [] (map key all)
 
-  abbrev pub asked_keys : List ℕ
-  asked_keys = map (ask_key first seeds recs) (asks (plan_sheet p) l)
+pub asking : (s : Sheet) → in_limits s ≡ true → (l : Label) (key : Ask → ℕ) (rest : List Ask) → rest ≡ asks s l → (edges : Edges) → keys_of edges ≡ [] → edges.count ≡ 0
+    → Asking key (asks s l) rest edges
+asking s lim l key rest is edges e z = record {
+  few = omega (arith, asks-few s lim l, ap length is);
+  roles = λ q m. asks-role s lim l q (subst (λ (qs : List Ask). q ∈ qs) is m);
+  whole = ap₂ (λ (ks : List ℕ) (qs : List Ask). insert_keys ks (map key qs)) e is;
+}
 
-  pub record Asking (edges : Edges) (left : ℕ) : Type 0 where
-    pub inside : Inside (count (plan_sheet p)) left
-    pub few : edges.count + length (members 32 left) ≤ 32
-    pub rises : Ascending (keys_of edges)
-    pub rest : insert_keys (keys_of edges) (each keys_at (members 32 left)) ≡ insert_keys [] asked_keys
+module _ {key : Ask → ℕ} {all rest : List Ask} {edges : Edges} (g : Asking key all rest edges) where
+  pub asked-all : rest ≡ [] → (edges.count ≤ 32) × (keys_of edges ≡ insert_keys [] (map key all))
+  asked-all e = (omega (arith, g.few), sym (ap (λ (qs : List Ask). insert_keys (keys_of edges) (map key qs)) e) ∙ g.whole)
 
-few-members : (n left : ℕ) → length (members n left) ≤ n
-unfolding members
-few-members n left = omega (arith, filter-length (bit left) (up_to n), length_from 0 n)
+  module _ (q : Ask) (others : List Ask) (is : rest ≡ q ∷ others) where
+    pub asked-role : q.role < role_count
+    asked-role = g.roles q (subst (λ (qs : List Ask). q ∈ qs) (sym is) here)
 
-module _ {p : List ℕ} (l : Label) (first seeds : ℕ) (recs : List ℕ) where
-  pub asking-start : Prepared p → l.holding < 2 ^ 32 → l.failing < 2 ^ 32 → (edges : Edges) → keys_of edges ≡ [] → edges.count ≡ 0
-      → Asking p l first seeds recs edges (bit_and (bit_or l.holding l.failing) (get_or p 390 0))
-  asking-start pre h< f< edges e z = record {
-    inside = asking-inside l pre h< f<;
-    few = omega (arith, few-members 32 (asking l pre h< f<));
-    rises = subst Ascending (sym e) tt;
-    rest =
-        ap (λ (ks : List ℕ). insert_keys ks (each (keys_at p l first seeds recs) (members 32 (asking l pre h< f<)))) e
-        ∙ ap (insert_keys []) (asks-all l pre h< f< (ask_key first seeds recs) (keys_asked first seeds recs) refl (λ q. refl));
-  }
+    pub asked-room : edges.count < 32
+    asked-room = omega (arith, g.few, ap length is)
 
-module _ {p : List ℕ} {l : Label} {first seeds : ℕ} {recs : List ℕ} {edges : Edges} {left : ℕ} (g : Asking p l first seeds recs edges left) where
-  pub asked-all : left ≡ 0 → keys_of edges ≡ insert_keys [] (asked_keys p l first seeds recs)
-  asked-all e = sym (ap (λ (ms : List ℕ). insert_keys (keys_of edges) (each (keys_at p l first seeds recs) ms)) (ap (members 32) e ∙ members-none 32)) ∙ g.rest
-
-  module _ (h : 0 < left) where
-    fewer : length (members 32 left) ≡ suc (length (members 32 (rest_of left)))
-    fewer = ap length (rest-members g.inside h)
-
-    pub some-room : edges.count < 32
-    some-room = omega (arith, g.few, fewer)
-
-    pub ask-on : (next : Edges) → keys_of next ≡ insert_keys (keys_of edges) (keys_at p l first seeds recs (lowest-of left)) → next.count ≤ edges.count + 1
-        → Asking p l first seeds recs next (rest_of left)
-    ask-on next e c =
-        let now = keys_at p l first seeds recs (lowest-of left) in
-        let others = each (keys_at p l first seeds recs) (members 32 (rest_of left)) in
-        record {
-          inside = rest-inside g.inside h;
-          few = omega (arith, g.few, fewer);
-          rises = subst Ascending (sym e) (inserts-rise (keys_of edges) now g.rises);
-          rest =
-              ap (λ (ks : List ℕ). insert_keys ks others) e
-              ∙ sym (inserts-append (keys_of edges) now others)
-              ∙ ap (insert_keys (keys_of edges)) (sym (rest-each g.inside h (keys_at p l first seeds recs)))
-              ∙ g.rest;
-        }
+    pub ask-on : (next : Edges) → keys_of next ≡ insert_key (key q) (keys_of edges) → next.count ≤ edges.count + 1 → Asking key all others next
+    ask-on next e c = record {
+      few = omega (arith, g.few, ap length is);
+      roles = λ k m. g.roles k (subst (λ (qs : List Ask). k ∈ qs) (sym is) (there m));
+      whole = ap (λ (ks : List ℕ). insert_keys ks (map key others)) e ∙ ap (λ (qs : List Ask). insert_keys (keys_of edges) (map key qs)) (sym is) ∙ g.whole;
+    }
 
 -- ---- the loop over the role assertions: what is left to put in is the whole
 keys_from : (x : ℕ) (a : RoleAssertion) → a.source ≡ x → keys_along x a ≡ key_of a.role a.target ∷ []
@@ -299,37 +310,30 @@ keys_from x a e = rw (eq-eqb a.source x e)
 keys-other : (x : ℕ) (a : RoleAssertion) → (a.source ≡ x → ⊥) → keys_along x a ≡ []
 keys-other x a e = rw (ne_eqb a.source x e)
 
-pub record Along (p : List ℕ) (x : ℕ) (start edges : Edges) (e : ℕ) : Type 0 where
+pub record Along (s : Sheet) (x : ℕ) (start edges : Edges) (e : ℕ) : Type 0 where
   pub few : edges.count ≤ 32 + e
-  pub rises : Ascending (keys_of edges)
-  pub fits : e ≤ get_or p 388 0
-  pub rest : insert_keys (keys_of edges) (each (keys_along x) (drop e (plan_sheet p).roles)) ≡ insert_keys (keys_of start) (each (keys_along x) (plan_sheet p).roles)
+  pub rest : insert_keys (keys_of edges) (each (keys_along x) (drop e s.roles)) ≡ insert_keys (keys_of start) (each (keys_along x) s.roles)
 
-pub along-start : (p : List ℕ) (x : ℕ) (start : Edges) (ks : List ℕ) → start.count ≤ 32 → keys_of start ≡ insert_keys [] ks → Along p x start start 0
-along-start p x start ks c e = record { few = omega arith; rises = subst Ascending (sym e) (inserts-rise [] ks tt); fits = omega arith; rest = refl }
+pub along-start : (s : Sheet) (x : ℕ) (start : Edges) → start.count ≤ 32 → Along s x start start 0
+along-start s x start c = record { few = omega arith; rest = refl }
 
-module _ {p : List ℕ} {x : ℕ} {start edges : Edges} {e : ℕ} (g : Along p x start edges e) where
-  pub along-end : get_or p 388 0 ≤ e → (ks : List ℕ) → keys_of start ≡ insert_keys [] ks → keys_of edges ≡ insert_keys [] (ks ++ each (keys_along x) (plan_sheet p).roles)
+module _ {s : Sheet} {x : ℕ} {start edges : Edges} {e : ℕ} (g : Along s x start edges e) where
+  pub along-end : length s.roles ≤ e → (ks : List ℕ) → keys_of start ≡ insert_keys [] ks → keys_of edges ≡ insert_keys [] (ks ++ each (keys_along x) s.roles)
   along-end b ks q =
-      let past : length (plan_sheet p).roles ≤ e = omega (arith, role-count p) in
-      let none : drop e (plan_sheet p).roles ≡ [] = drop_of_length-le (plan_sheet p).roles past in
+      let none : drop e s.roles ≡ [] = drop_of_length-le s.roles b in
       sym (ap (λ (rs : List RoleAssertion). insert_keys (keys_of edges) (each (keys_along x) rs)) none)
       ∙ g.rest
-      ∙ ap (λ (k : List ℕ). insert_keys k (each (keys_along x) (plan_sheet p).roles)) q
-      ∙ sym (inserts-append [] ks (each (keys_along x) (plan_sheet p).roles))
+      ∙ ap (λ (k : List ℕ). insert_keys k (each (keys_along x) s.roles)) q
+      ∙ sym (inserts-append [] ks (each (keys_along x) s.roles))
 
-  module _ (b : e < get_or p 388 0) where
-    along-on : (next : Edges) → keys_of next ≡ insert_keys (keys_of edges) (keys_along x (assertion_at p e)) → next.count ≤ edges.count + 1 → Along p x start next (e + 1)
+  module _ (b : e < length s.roles) where
+    along-on : (next : Edges) → keys_of next ≡ insert_keys (keys_of edges) (keys_along x (role_assertion s e)) → next.count ≤ edges.count + 1 → Along s x start next (e + 1)
     along-on next q c =
-        let given = (plan_sheet p).roles in
-        let now = keys_along x (assertion_at p e) in
-        let others = each (keys_along x) (drop (suc e) given) in
-        let parts : drop e given ≡ assertion_at p e ∷ drop (suc e) given =
-        drop-cons given e (assertion_at p e) (omega (arith, role-count p)) ∙ ap (λ (a : RoleAssertion). a ∷ drop (suc e) given) (role-is p e (assertion_at p e) b) in
+        let now = keys_along x (role_assertion s e) in
+        let others = each (keys_along x) (drop (suc e) s.roles) in
+        let parts : drop e s.roles ≡ role_assertion s e ∷ drop (suc e) s.roles = drop-cons s.roles e (record { role = 0; source = 0; target = 0 }) b in
         rw (add-one e) (record {
           few = omega (arith, g.few);
-          rises = subst Ascending (sym q) (inserts-rise (keys_of edges) now g.rises);
-          fits = omega arith;
           rest =
               ap (λ (ks : List ℕ). insert_keys ks others) q
               ∙ sym (inserts-append (keys_of edges) now others)
@@ -337,29 +341,17 @@ module _ {p : List ℕ} {x : ℕ} {start edges : Edges} {e : ℕ} (g : Along p x
               ∙ g.rest;
         })
 
-    pub along-other : ((assertion_at p e).source ≡ x → ⊥) → Along p x start edges (e + 1)
-    along-other q = along-on edges (ap (insert_keys (keys_of edges)) (sym (keys-other x (assertion_at p e) q))) (omega arith)
+    pub along-other : ((role_assertion s e).source ≡ x → ⊥) → Along s x start edges (e + 1)
+    along-other q = along-on edges (ap (insert_keys (keys_of edges)) (sym (keys-other x (role_assertion s e) q))) (omega arith)
 
-    pub along_one : (assertion_at p e).source ≡ x → (next : Edges) → keys_of next ≡ insert_key (key_of (assertion_at p e).role (assertion_at p e).target) (keys_of edges)
-        → next.count ≤ edges.count + 1 → Along p x start next (e + 1)
-    along_one q next r c = along-on next (r ∙ ap (insert_keys (keys_of edges)) (sym (keys_from x (assertion_at p e) q))) c
+    pub along_one : (role_assertion s e).source ≡ x → (next : Edges) → keys_of next ≡ insert_key (key_of (role_assertion s e).role (role_assertion s e).target) (keys_of edges)
+        → next.count ≤ edges.count + 1 → Along s x start next (e + 1)
+    along_one q next r c = along-on next (r ∙ ap (insert_keys (keys_of edges)) (sym (keys_from x (role_assertion s e) q))) c
 
 -- the numbers of a role assertion
-pub record Small (p : List ℕ) (e : ℕ) : Type 0 where
-  pub row : e < 16
-  pub role : (assertion_at p e).role < 8
-  pub source : (assertion_at p e).source < 8
-  pub target : (assertion_at p e).target < 8
-
-pub role-small : {p : List ℕ} → Prepared p → (plan_sheet p).individuals ≤ 8 → (e : ℕ) → e < get_or p 388 0 → Small p e
-role-small {p} h i e b =
-    let (from, to) = (well-formed (plan_sheet p) h.well).roles (assertion_at p e) (role-in p e b) in
-    record {
-      row = omega (arith, roles-fit h);
-      role = roles-limited (plan_sheet p) h.limited (assertion_at p e) (role-in p e b);
-      source = omega arith;
-      target = omega arith;
-    }
+pub role-small : (s : Sheet) → well_formed s ≡ true → in_limits s ≡ true → (e : ℕ) → e < length s.roles → ((role_assertion s e).role < role_count) × ((role_assertion s e).target < 8)
+role-small s wf lim e b =
+    (roles-limited s lim (role_assertion s e) (get_or-in s.roles e _ b), omega (arith, (role-inside s wf e b).1, (few lim).individuals))
 
 -- ---- the keys as edges
 earlier-key : (x k j : ℕ) → k < j → Earlier (edge_of x k) (edge_of x j)
@@ -381,9 +373,17 @@ key-parts x r y h =
     let q : key_of r y % 8192 ≡ y = omega arith in
     λ i. x ∷ p i ∷ q i ∷ []
 
-module _ (s : Sheet) (wf : WellFormed s) (lim : in_limits s ≡ true) (J : Joint) (first : ℕ) (long : length J ≡ first) (small : first ≤ 8) (ones : s.individuals ≤ first)
-    (seeds : ℕ) (recs : List ℕ) (fits : seeds ≤ length recs) (few : seeds ≤ 4096)
-    (l : Label) (all_in : SeedsIn s l (recorded seeds recs)) (d : Distinct (recorded seeds recs)) (x : ℕ) where
+module _ (s : Sheet) (wf : WellFormed s) (lim : in_limits s ≡ true) (J : Joint) (R : Recorded) (long : length J ≡ R.first) (ones : s.individuals ≤ R.first)
+    (l : Label) (all_in : SeedsIn s l (recorded R.seeds R.records.now)) (d : Distinct (recorded R.seeds R.records.now)) (x : ℕ) where
+  abbrev first : ℕ
+  first = R.first
+
+  abbrev seeds : ℕ
+  seeds = R.seeds
+
+  abbrev recs : List ℕ
+  recs = R.records.now
+
   abbrev B : List Label
   B = recorded seeds recs
 
@@ -391,13 +391,13 @@ module _ (s : Sheet) (wf : WellFormed s) (lim : in_limits s ≡ true) (J : Joint
   n = length J + length B
 
   size : length B ≡ seeds
-  size = length-recorded seeds recs fits
+  size = length-recorded seeds recs R.fits
 
   abbrev edge : ℕ → ℕ → ℕ → Bool
   edge r z y = any (leads J B r y) (asks s l) || any (asserted r z y) s.roles
 
   abbrev keys : List ℕ
-  keys = map (ask_key first seeds recs) (asks s l) ++ each (keys_along x) s.roles
+  keys = map (ask_key R) (asks s l) ++ each (keys_along x) s.roles
 
   abbrev place : Ask → ℕ
   place q = found_at recs seeds (word_of q.seed)
@@ -410,8 +410,8 @@ module _ (s : Sheet) (wf : WellFormed s) (lim : in_limits s ≡ true) (J : Joint
       let b : j < seeds = omega (arith, size) in
       let word : get_or recs j 0 % 4294967296 < 4294967296 = omega arith in
       let word_small : q.seed.holding < 4294967296 = subst (λ (k : Label). k.holding < 4294967296) (sym (record-at seeds recs j b) ∙ e) word in
-      let p = in-found recs seeds fits q.seed i in
-      (p, record-at seeds recs (place q) p ∙ found-label recs seeds fits q.seed word_small p)
+      let p = in-found recs seeds R.fits q.seed i in
+      (p, record-at seeds recs (place q) p ∙ found-label recs seeds R.fits q.seed word_small p)
 
   leads-there : (q : Ask) → q ∈ asks s l → leads J B q.role (first + place q) q ≡ true
   unfolding leads
@@ -449,7 +449,7 @@ module _ (s : Sheet) (wf : WellFormed s) (lim : in_limits s ≡ true) (J : Joint
 
   key-edge : (k : ℕ) → k ∈ keys → edge_of x k ∈ leaving n edge x
   key-edge k m = ⊎_elim
-      (λ i. let (q, q-in, e) = Memᴰ.of_map (ask_key first seeds recs) (asks s l) i in
+      (λ i. let (q, q-in, e) = Memᴰ.of_map (ask_key R) (asks s l) i in
       let y = first + place q in
       let (p, _) = seat q q-in in
       Memᴰ.cast (ap (edge_of x) (sym e) ∙ key-parts x q.role y (omega arith))
@@ -462,21 +462,21 @@ module _ (s : Sheet) (wf : WellFormed s) (lim : in_limits s ≡ true) (J : Joint
       (leaving-intro n edge x a.role a.target (roles-limited s lim a a_in) (omega arith)
       (or_right (any (leads J B a.role a.target) (asks s l)) _
       (any-intro (asserted a.role x a.target) s.roles a_in (asserted-there a (eqb-true a.source x t))))))
-      (Memᴰ.append_cases (map (ask_key first seeds recs) (asks s l)) m)
+      (Memᴰ.append_cases (map (ask_key R) (asks s l)) m)
 
   edge-key : (r y : ℕ) → y < n → edge r x y ≡ true → (k : ℕ) × (k ∈ keys) × (edge_of x k ≡ x ∷ r ∷ y ∷ [])
   edge-key r y y< t = ⊎_elim
       (λ u. let (q, q-in, v) = any-elim (leads J B r y) (asks s l) u in
       let (e, f) = leads-only r y y< q q-in v in (
-        ask_key first seeds recs q,
-        Memᴰ.append_left (each (keys_along x) s.roles) (Memᴰ.map (ask_key first seeds recs) q-in),
+        ask_key R q,
+        Memᴰ.append_left (each (keys_along x) s.roles) (Memᴰ.map (ask_key R) q-in),
         key-parts x q.role (first + place q) (omega (arith, size)) ∙ (λ i. x ∷ e i ∷ f i ∷ []),
       ))
       (λ u. let (a, a_in, v) = any-elim (asserted r x y) s.roles u in
       let (e, h, f) = asserted-only r y a v in
       let (_, b) = wf.roles a a_in in (
         key_of a.role a.target,
-        Memᴰ.append_right (map (ask_key first seeds recs) (asks s l))
+        Memᴰ.append_right (map (ask_key R) (asks s l))
             (each-intro (keys_along x) s.roles a_in (cond-intro (eqb a.source x) (eq-eqb a.source x h))),
         key-parts x a.role a.target (omega arith) ∙ (λ i. x ∷ e i ∷ f i ∷ []),
       ))

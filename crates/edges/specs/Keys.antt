@@ -1,14 +1,15 @@
 -- The edges from one element as keys, and what they stand for. Definitions only.
-use Rattle.std.specs.Prelude.{ℕ, ◌+◌, ◌*◌, ◌/◌, ◌%◌, ◌<◌, true, false, ◌||◌, cond, List, [], ◌∷◌, length, take, ltb, eqb}
+use Rattle.std.specs.Prelude.{ℕ, ◌+◌, ◌*◌, ◌/◌, ◌%◌, true, false, ◌||◌, cond, List, [], ◌∷◌, length, take, ltb, eqb}
 use Rattle.alc.specs.Lists.{◌∈◌, any, each, up_to}
-use Rattle.alc.specs.Sheet.{Sheet, RoleAssertion, role_count}
+use Rattle.alc.specs.declared.RoleAssertion.{RoleAssertion}
+use Rattle.alc.specs.Sheet.{Sheet, role_count}
 use Rattle.alc.specs.declared.Label.{Label}
 use Rattle.alc.specs.Settle.{Joint}
-use Rattle.alc.specs.Seeds.{Ask, asks, seeds}
+use Rattle.alc.specs.declared.Ask.{Ask}
+use Rattle.alc.specs.Seeds.{asks, seeds}
 use Rattle.alc.specs.Model.{leads, asserted}
-use Rattle.edges.specs.declared.Edges.{Edges}
-use Rattle.seeds.specs.declared.Asked.{Asked}
-use Rattle.seeds.specs.declared.Asked.TheVariants.{Nothing, Seed}
+use Rattle.edges.specs.declared.keys.Edges.{Edges}
+use Rattle.edges.specs.declared.recorded.Recorded.{Recorded}
 use Rattle.tableau.specs.Records.{word_of, found_at}
 
 -- role · 8192 + to
@@ -28,19 +29,13 @@ abbrev pub insert_keys : List ℕ → List ℕ → List ℕ
 insert_keys ks [] = ks
 insert_keys ks (k ∷ more) = insert_keys (insert_key k ks) more
 
--- the key of an ask: the first `seeds` records are the elements from `first` on
-abbrev pub ask_key : ℕ → ℕ → List ℕ → Ask → ℕ
-ask_key first seeds recs q = key_of q.role (first + found_at recs seeds (word_of q.seed))
+-- the element of a seed, by the records: the first `seeds` of them are the elements from `first` on
+abbrev pub element_of : Recorded → Label → ℕ
+element_of r l = r.first + found_at r.records.now r.seeds (word_of l)
 
--- the key of what a line asks for, if it does
-abbrev pub keys_asked : ℕ → ℕ → List ℕ → Asked → List ℕ
-keys_asked first seeds recs Nothing = []
-keys_asked first seeds recs (Seed r l) = ask_key first seeds recs (record { role = r; seed = l }) ∷ []
-
--- it is asked for along one of the roles there are
-abbrev pub RoleBelow : Asked → Type 0
-RoleBelow Nothing = Unit {0}
-RoleBelow (Seed r l) = r < role_count
+-- the key of an ask
+abbrev pub ask_key : Recorded → Ask → ℕ
+ask_key r q = key_of q.role (element_of r q.seed)
 
 -- the key of a role assertion, if it is one from x
 abbrev pub keys_along : ℕ → RoleAssertion → List ℕ

@@ -11,12 +11,14 @@ use lib.Dec.{eqb, ltb}
 use borrow.Author.Tests.{eqb-true, eq-eqb}
 use native.Mathlib.Decide.{dec_lt}
 use native.Mathlib.Omega.{arith}
-use Rattle.alc.specs.Lists.{◌∈◌, Maybe, nothing, just, filter, up_to, all, each}
+use Rattle.std.specs.Prelude.{Ok, Err}
+use Rattle.alc.specs.Lists.{◌∈◌, filter, up_to, all, each, first, up_to_first}
 use Rattle.alc.specs.Sheet.{Sheet}
 use Rattle.alc.specs.declared.Label.{Label}
 use Rattle.alc.specs.Label.{clashes}
 use Rattle.alc.specs.Settle.{Joint, label, closes}
-use Rattle.alc.specs.Seeds.{Ask, SeedSatisfiable, among, asks, bound, expansions, fine, good, include_all, reach, seeds, seed_survives, served, successors}
+use Rattle.alc.specs.declared.Ask.{Ask}
+use Rattle.alc.specs.Seeds.{SeedSatisfiable, among, asks, bound, expansions, fine, good, include_all, reach, seeds, seed_survives, served, successors}
 use Rattle.alc.specs.Judge.{Entry, Reached, at_once, considered, later, records_needed}
 use Rattle.alc.proofs.Theorems.Lists.{cases, clashing, same?, all-cong, tests_same, any_none, each-elim, each-intro, here, filter-elim, filter-intro, filter_same, up_to-elim, up_to-intro}
 use Rattle.alc.proofs.Theorems.Counting.{filter-filter, pigeon}
@@ -28,12 +30,14 @@ use Rattle.alc.proofs.Theorems.Decides.{seed-complete, seed-sound, seeds-known}
 use Rattle.alc.proofs.Theorems.Reach.{ClosedBy, Grows, again, closed-by-successors, grown-at, grown-in, grown-refl, grown-trans, include_all-all, include_all-grown, reach-all, reach-closed, successors-known}
 use Rattle.alc.proofs.Theorems.Records.{records-are, records-distinct}
 use Rattle.tableau.specs.Records.{GrownTo, label_of, recorded}
-use Rattle.tableau.specs.Walks.{standing}
-use Rattle.engine.specs.Ledger.{Known, Ledger, Lent, Struck, none, one, Stable, stands}
-use Rattle.engine.specs.Verdicts.{JudgedOne, TooMany, ToldOne, Weighed, used_by}
-use Rattle.engine.specs.declared.judge.Verdict.{Verdict}
-use Rattle.engine.specs.declared.judge.Verdict.TheVariants.{Full as out, Going, Fine}
-use Rattle.tableau.specs.declared.records.Grown.TheVariants.{Full, Used}
+use Rattle.tableau.specs.Walks.{Lent, standing}
+use Rattle.engine.specs.Ledger.{Known, Ledger, Struck, none, one, Stable, stands}
+use Rattle.engine.specs.Verdicts.{JudgedAll, Kept, ToldAll, TooMany, Weighed}
+use Rattle.engine.specs.declared.judge.Judged.{Judged}
+use Rattle.engine.specs.declared.judge.Judged.TheVariants.{Going, Fine}
+use Rattle.tableau.specs.declared.labels.Labels.{Labels}
+use Rattle.tableau.specs.declared.records.Full.{Full}
+use Rattle.tableau.specs.Joints.{joint_of, Fit}
 
 -- ---- which labels are recorded, and which of them stand
 -- fewer pass where a member that passed does not any more
@@ -259,34 +263,49 @@ module _ (s : Sheet) (Js : List Joint) (J : Joint) (C : List Label) (reached : (
           (Memᴰ.append_cases Js K-in)
       inside E g closed asked l (later m r k k-in q q-in e) = Memᴰ.cast e (closed m (inside E g closed asked m r) k k-in q q-in)
 
+-- ---- a list of one joint label: it is looked up, and it is fine or it is not
+module _ {A : Type 0} (p : A → Bool) (x : A) where
+  pub up_to_first-one : up_to_first p (x ∷ []) ≡ x ∷ []
+  up_to_first-one = go (p x)
+    where
+      go : (b : Bool) → (x ∷ elim b as (λ _. List A) [ true ↦ [] | false ↦ [] ]) ≡ x ∷ []
+      go true = refl
+      go false = refl
+
 -- ---- the ledger with one joint label more
-module _ (s : Sheet) (Js : List Joint) (J : Joint) (clear : closes s J ≡ false) (used : ℕ) (recs marks : List ℕ) (known : Known s (recorded used recs)) (ledger : Ledger s Js used recs marks) where
-  -- what the records become, once the seeds of J and all they reach are put behind them
-  pub ledger-grown : Extended s Js J (recorded used recs) (closing s J used (recorded used recs))
+module _ (s : Sheet) (Js : List Joint) (j : Labels) (clear : closes s (joint_of j) ≡ false) (used : ℕ) (recs marks : List ℕ) (known : Known s (recorded used recs))
+    (ledger : Ledger s Js used recs marks) where
+  abbrev with_j : List Joint
+  with_j = Js ++ (joint_of j ∷ [])
+
+  -- what the records become, once the seeds of j and all they reach are put behind them
+  pub ledger-grown : Extended s Js (joint_of j) (recorded used recs) (closing s (joint_of j) used (recorded used recs))
   ledger-grown =
       let C = recorded used recs in
-      subst (λ (i : ℕ). Extended s Js J C (closing s J i C)) (length-recorded used recs ledger.lent.enough) (closing-next s Js J C ledger.reached known clear)
+      subst (λ (i : ℕ). Extended s Js (joint_of j) C (closing s (joint_of j) i C)) (length-recorded used recs ledger.lent.enough)
+      (closing-next s Js (joint_of j) C ledger.reached known clear)
 
   -- where they outnumber the room, what is reached does
-  pub begun-many : (room : ℕ) → room < length (begun s J (recorded used recs)) → TooMany s (Js ++ (J ∷ [])) room
+  pub begun-many : (room : ℕ) → room < length (begun s (joint_of j) (recorded used recs)) → TooMany s with_j room
   begun-many room h = record {
-    some = begun s J (recorded used recs);
-    distinct = (begun-grown s J clear (recorded used recs) known).0.distinct;
-    reached = begun-reached s Js J (recorded used recs) ledger.reached;
+    some = begun s (joint_of j) (recorded used recs);
+    distinct = (begun-grown s (joint_of j) clear (recorded used recs) known).0.distinct;
+    reached = begun-reached s Js (joint_of j) (recorded used recs) ledger.reached;
     more = h;
   }
 
-  pub closing-many : (room : ℕ) → room < length (closing s J used (recorded used recs)) → TooMany s (Js ++ (J ∷ [])) room
+  pub closing-many : (room : ℕ) → room < length (closing s (joint_of j) used (recorded used recs)) → TooMany s with_j room
   closing-many room h = record {
-    some = closing s J used (recorded used recs);
+    some = closing s (joint_of j) used (recorded used recs);
     distinct = ledger-grown.grown.distinct;
     reached = λ l. (ledger-grown.reached l).0;
     more = h;
   }
 
-  module _ (wf : WellFormed s) (n : ℕ) (recs' : List ℕ) (is : recorded n recs' ≡ closing s J used (recorded used recs)) (enough : n ≤ length recs') (marked : n ≤ length marks) where
-    next : Extended s Js J (recorded used recs) (recorded n recs')
-    next = subst (λ (E : List Label). Extended s Js J (recorded used recs) E) (sym is) ledger-grown
+  module _ (wf : WellFormed s) (n : ℕ) (recs' : List ℕ) (is : recorded n recs' ≡ closing s (joint_of j) used (recorded used recs)) (enough : n ≤ length recs')
+      (marked : n ≤ length marks) where
+    next : Extended s Js (joint_of j) (recorded used recs) (recorded n recs')
+    next = subst (λ (E : List Label). Extended s Js (joint_of j) (recorded used recs) E) (sym is) ledger-grown
 
     -- the old records are where they were
     next-old : (i : ℕ) → i < used → label_of (get_or recs' i 0) ≡ label_of (get_or recs i 0)
@@ -295,45 +314,50 @@ module _ (s : Sheet) (Js : List Joint) (J : Joint) (clear : closes s J ≡ false
         let c : i < n = omega (arith, length-recorded n recs' enough, grown-longer s next.grown) in
         sym (recorded-at n recs' i c) ∙ grown-at s (recorded used recs) (recorded n recs') next.grown i b ∙ recorded-at used recs i h
 
-    -- the ledger once the new records are weighed, and the verdict
-    pub ledger-next : {r : Verdict} {m' : List ℕ} → Weighed s J used n recs' marks r m' → Ledger s (Js ++ (J ∷ [])) n recs' m'
-    ledger-next {r} {m'} w = record {
-      lent = record { enough = enough; marked = omega (arith, struck-size w.struck, w.size); distinct = next.grown.distinct };
-      reached = next.reached;
-      right = strike-right s wf n used recs' enough next.closed (grown-known s next.grown)
-          (λ i h. subst (λ (l : Label). (get_or w.cleared i 0 ≡ 0) ↔ (seed_survives s l ≡ true)) (sym (next-old i h))
-          (subst (λ (z : ℕ). (z ≡ 0) ↔ (seed_survives s (label_of (get_or recs i 0)) ≡ true)) (sym (w.old i h)) (ledger.right i h)))
-          w.new w.struck w.stable;
-    }
+    module _ {r : Judged} {m' : List ℕ} (w : Weighed s j used n recs' marks r m') where
+      -- the ledger once the new records are weighed
+      pub ledger-next : Ledger s with_j n recs' m'
+      ledger-next = record {
+        lent = record { enough = enough; marked = omega (arith, struck-size w.struck, w.size); distinct = next.grown.distinct };
+        reached = next.reached;
+        right = strike-right s wf n used recs' enough next.closed (grown-known s next.grown)
+            (λ i h. subst (λ (l : Label). (get_or w.cleared i 0 ≡ 0) ↔ (seed_survives s l ≡ true)) (sym (next-old i h))
+            (subst (λ (z : ℕ). (z ≡ 0) ↔ (seed_survives s (label_of (get_or recs i 0)) ≡ true)) (sym (w.old i h)) (ledger.right i h)))
+            w.new w.struck w.stable;
+      }
 
-    pub told-next : {r : Verdict} {m' : List ℕ} → Weighed s J used n recs' marks r m' → ToldOne s (Js ++ (J ∷ [])) J r recs' m'
-    told-next {r} {m'} w = go (all (served s (standing n recs' m')) J) w.told (sym (all-stand-fine s n recs' m' enough (ledger-next w).right J next.asked))
-      where
-        go : (b : Bool) → r ≡ elim b as (λ _. Verdict) [ true ↦ Fine n | false ↦ Going n ] → all (fine s) J ≡ b → ToldOne s (Js ++ (J ∷ [])) J r recs' m'
-        go true e f = rw e (ledger-next w, f)
-        go false e f = rw e (ledger-next w, f)
+      -- and the verdict
+      pub told-next : ToldAll s Js (joint_of j ∷ []) (Ok r) recs' m'
+      told-next = go (all (served s (standing n recs' m')) (joint_of j)) w.told (sym (all-stand-fine s n recs' m' enough ledger-next.right (joint_of j) next.asked))
+        where
+          go : (b : Bool) → r ≡ elim b as (λ _. Judged) [ true ↦ Fine n j | false ↦ Going n ] → all (fine s) (joint_of j) ≡ b
+              → ToldAll s Js (joint_of j ∷ []) (Ok r) recs' m'
+          go true e f = rw (e, up_to_first-one (all (fine s)) (joint_of j)) (ledger-next, rw (f, first))
+          go false e f = rw (e, up_to_first-one (all (fine s)) (joint_of j)) (ledger-next, rw (f, first))
 
 -- ---- a settled joint label is judged: its seeds are put behind the records, then all they reach, and these are weighed
-module _ (s : Sheet) (J : Joint) (clear : closes s J ≡ false) (used : ℕ) (before marks : List ℕ) (known : Known s (recorded used before)) (lent : Lent used before marks) (room : length before ≤ length marks) where
-  judged-full : (after : List ℕ) → length after ≡ length before → ((Js : List Joint) → Ledger s Js used before marks → TooMany s (Js ++ (J ∷ [])) (length after))
-      → JudgedOne s J used before marks out after marks
-  judged-full after size many = record {
-    kept = record { size = size; marked = refl; lent = λ n e. absurd (no n e); known = λ n e. absurd (no n e) };
-    told = many;
+module _ (s : Sheet) (j : Labels) (fit : Fit s j) (clear : closes s (joint_of j) ≡ false) (used : ℕ) (before marks : List ℕ) (known : Known s (recorded used before))
+    (lent : Lent used before marks) (room : length before ≤ length marks) where
+  -- there is no room
+  abbrev Crowded : List ℕ → Full → Type 0
+  Crowded after e = JudgedAll s (joint_of j ∷ []) used before marks (Err e) after marks
+
+  judged-full : (e : Full) (after : List ℕ) → length after ≡ length before
+      → ((Js : List Joint) → Ledger s Js used before marks → TooMany s (Js ++ (joint_of j ∷ [])) (length after)) → Crowded after e
+  judged-full e after size many = record {
+    kept = record { size = size; marked = refl; lent = tt; known = tt; fit = tt };
+    told = λ Js ledger. rw (up_to_first-one (all (fine s)) (joint_of j)) (many Js ledger);
   }
-    where
-      no : (n : ℕ) → ◌≡◌ {A = Maybe ℕ} nothing (just n) → ⊥
-      no n e = let z : ◌≡◌ {A = ℕ} 0 1 = cc in omega arith
 
-  -- there is no room for its seeds
-  pub begun-full : (after : List ℕ) → GrownTo (begun s J (recorded used before)) before Full after → JudgedOne s J used before marks out after marks
-  begun-full after g = judged-full after g.size (λ Js ledger. begun-many s Js J clear used before marks known ledger (length after) g.holds)
+  -- for its seeds
+  pub begun-full : (e : Full) (after : List ℕ) → GrownTo (begun s (joint_of j) (recorded used before)) before (Err e) after → Crowded after e
+  begun-full e after g = judged-full e after g.size (λ Js ledger. begun-many s Js j clear used before marks known ledger (length after) g.holds)
 
-  module _ (k : ℕ) (mid : List ℕ) (g : GrownTo (begun s J (recorded used before)) before (Used k) mid) where
+  module _ (k : ℕ) (mid : List ℕ) (g : GrownTo (begun s (joint_of j) (recorded used before)) before (Ok k) mid) where
     -- what closing asks for
     pub begun-ready : (used ≤ k) × (k ≤ length mid) × Known s (recorded k mid)
     begun-ready =
-        let grown = (begun-grown s J clear (recorded used before) known).0 in
+        let grown = (begun-grown s (joint_of j) clear (recorded used before) known).0 in
         let (size, fits, is) = g.holds in (
           omega (arith, grown-longer s grown, length-recorded used before lent.enough),
           fits,
@@ -347,16 +371,16 @@ module _ (s : Sheet) (J : Joint) (clear : closes s J ≡ false) (used : ℕ) (be
     all_grown = reach-grown s (bound s) used (recorded k mid) begun-ready.2
 
     -- it is what the ledger's laws speak of
-    all-is : reached_from ≡ closing s J used (recorded used before)
+    all-is : reached_from ≡ closing s (joint_of j) used (recorded used before)
     all-is = ap (reach (successors s) (bound s) used) g.holds.2
 
-    -- there is no room for all that is reached
-    pub closing-full : (after : List ℕ) → GrownTo reached_from mid Full after → JudgedOne s J used before marks out after marks
-    closing-full after h =
-        judged-full after (h.size ∙ g.size)
-        (λ Js ledger. closing-many s Js J clear used before marks known ledger (length after) (subst (λ (E : List Label). length after < length E) all-is h.holds))
+    -- for all that is reached
+    pub closing-full : (e : Full) (after : List ℕ) → GrownTo reached_from mid (Err e) after → Crowded after e
+    closing-full e after h =
+        judged-full e after (h.size ∙ g.size)
+        (λ Js ledger. closing-many s Js j clear used before marks known ledger (length after) (subst (λ (E : List Label). length after < length E) all-is h.holds))
 
-    module _ (n : ℕ) (after : List ℕ) (h : GrownTo reached_from mid (Used n) after) where
+    module _ (n : ℕ) (after : List ℕ) (h : GrownTo reached_from mid (Ok n) after) where
       all_known : Known s (recorded n after)
       all_known = subst (Known s) (sym h.holds.2) (grown-known s all_grown)
 
@@ -369,15 +393,11 @@ module _ (s : Sheet) (J : Joint) (clear : closes s J ≡ false) (used : ℕ) (be
           (omega arith, record { enough = fits; marked = omega (arith, h.size, g.size); distinct = all_known.distinct })
 
       -- there is room, and all that is new was weighed
-      pub judged-weighed : WellFormed s → (r : Verdict) (m' : List ℕ) → Weighed s J used n after marks r m' → JudgedOne s J used before marks r after m'
+      pub judged-weighed : WellFormed s → (r : Judged) (m' : List ℕ) → Weighed s j used n after marks r m'
+          → JudgedAll s (joint_of j ∷ []) used before marks (Ok r) after m'
       judged-weighed wf r m' w = record {
-        kept = record {
-          size = h.size ∙ g.size;
-          marked = size;
-          lent = λ k e. subst (λ (i : ℕ). Lent i after m') (so k e) (record { enough = now.enough; marked = omega (arith, now.marked, size); distinct = now.distinct });
-          known = λ k e. subst (λ (i : ℕ). Known s (recorded i after)) (so k e) all_known;
-        };
-        told = λ Js ledger. told-next s Js J clear used before marks known ledger wf n after (h.holds.2 ∙ all-is) now.enough now.marked w;
+        kept = go (all (served s (standing n after m')) (joint_of j)) w.told;
+        told = λ Js ledger. told-next s Js j clear used before marks known ledger wf n after (h.holds.2 ∙ all-is) now.enough now.marked w;
       }
         where
           now : Lent n after marks
@@ -386,12 +406,12 @@ module _ (s : Sheet) (J : Joint) (clear : closes s J ≡ false) (used : ℕ) (be
           size : length m' ≡ length marks
           size = struck-size w.struck ∙ w.size
 
-          uses : (b : Bool) → used_by (elim b as (λ _. Verdict) [ true ↦ Fine n | false ↦ Going n ]) ≡ just n
-          uses true = refl
-          uses false = refl
+          still : Lent n after m'
+          still = record { enough = now.enough; marked = omega (arith, now.marked, size); distinct = now.distinct }
 
-          so : (k : ℕ) → used_by r ≡ just k → n ≡ k
-          so k e = let d : just n ≡ just k = sym (ap used_by w.told ∙ uses (all (served s (standing n after m')) J)) ∙ e in cc
+          go : (b : Bool) → r ≡ elim b as (λ _. Judged) [ true ↦ Fine n j | false ↦ Going n ] → Kept s before marks (Ok r) after m'
+          go true e = rw e (record { size = h.size ∙ g.size; marked = size; lent = still; known = all_known; fit = fit })
+          go false e = rw e (record { size = h.size ∙ g.size; marked = size; lent = still; known = all_known; fit = tt })
 
 -- ---- the first and the last ledger
 nothing-reached : (s : Sheet) (l : Label) → Reached s [] l → ⊥

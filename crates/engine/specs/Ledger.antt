@@ -7,18 +7,12 @@ use Rattle.alc.specs.Settle.{Joint}
 use Rattle.alc.specs.Seeds.{good, seed_survives, universe}
 use Rattle.alc.specs.Judge.{Reached}
 use Rattle.tableau.specs.Records.{label_of, recorded}
-use Rattle.tableau.specs.Walks.{standing}
+use Rattle.tableau.specs.Walks.{Lent, standing}
 
 -- labels that some line of the sheet can ask for, each once: so there are at most e·2^(e-1)
 pub record Known (s : Sheet) (C : List Label) : Type 0 where
   pub distinct : Distinct C
   pub known : (l : Label) → l ∈ C → l ∈ universe s
-
--- so many records are used, each once, and there is a mark for each
-pub record Lent (used : ℕ) (recs marks : List ℕ) : Type 0 where
-  pub enough : used ≤ length recs
-  pub marked : used ≤ length marks
-  pub distinct : Distinct (recorded used recs)
 
 -- ---- striking out
 pub record Strike : Type 0 where

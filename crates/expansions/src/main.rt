@@ -2,24 +2,22 @@
 // A sheet that is refused gives the number and the place of its refusal. Of a longer input the first 4,096 bytes are the sheet.
 #![tactic(auto)]
 
-ghost use Rattle.std.specs.Prelude.{◌≡◌, true, ◌<◌, ◌≤◌, ◌%◌, ◌^◌, length};
+ghost use Rattle.std.specs.Prelude.{◌≡◌, ◌<◌, ◌≤◌, ◌%◌, ◌^◌, length};
 ghost use Rattle.alc.specs.declared.Mark.TheVariants.{Holds as holds};
-ghost use Rattle.alc.specs.Sheet.{well_formed, in_limits};
 ghost use Rattle.alc.specs.Label.{blank, add};
 ghost use Rattle.alc.specs.Seeds.{expansions};
-ghost use Rattle.sheet.specs.Form.{sheet_of};
-ghost use Rattle.plan.specs.Plan.{plan_sheet, Prepared};
+ghost use Rattle.plan.specs.Plan.{plan_sheet};
 
 use alc::{Label, Mark};
+use plan::{Plan, prepare};
 use reader::read_sheet;
-use sheet::{Outcome, Reason, Sheet};
+use sheet::reason_number;
 use std::io::Read;
 use tableau::walks::count_expansions;
 
 // The settled expansions of the seed that line i holds.
-fn expansions_of(plan: &[u32; plan::SIZE], i: usize) -> u64
-    requires prepared { Prepared plan.now }
-    requires i_bound { i < 32 }
+fn expansions_of(plan: &Plan, i: usize) -> u64
+    requires { i < 32 }
     ensures { result ≡ length (expansions (plan_sheet plan.now) (add blank (holds i))) % 2 ^ 64 }
 {
     count_expansions(plan, Label::blank().add(Mark::Holds(i)))
@@ -30,49 +28,31 @@ fn print_pair(rt: &impl Print, a: u64, b: u64) {
     let _ = println!(rt; "{a} {b}");
 }
 
-fn print_lines(rt: &impl Print, plan: &[u32; plan::SIZE])
-    requires { Prepared plan.now }
-{
-    let lines = plan[plan::LINE_COUNT] as usize;
-    for i in 0..lines {
+fn print_lines(rt: &impl Print, plan: &Plan) {
+    for i in 0..plan.line_count() {
         print_pair(rt, i as u64, expansions_of(plan, i));
     }
 }
 
-fn print_sheet(rt: &impl Print, sheet: Sheet)
-    requires { (well_formed (sheet_of sheet) ≡ true) × (in_limits (sheet_of sheet) ≡ true) }
-{
-    let plan = plan::prepare(sheet);
-    print_lines(rt, &plan);
-}
-
-fn print_refusal(rt: &impl Print, why: Reason, at: usize) {
-    print_pair(rt, sheet::reason_number(why), at as u64);
-}
-
 fn answer(rt: &impl Print, s: &[u8]) {
-    let read = read_sheet(s);
-    let outcome = read.outcome;
-    match outcome {
-        Outcome::Accepted => print_sheet(rt, read.sheet),
-        Outcome::Refused(why, at) => print_refusal(rt, why, at),
+    match read_sheet(s) {
+        Ok(sheet) => print_lines(rt, &prepare(sheet)),
+        Err(refusal) => print_pair(rt, reason_number(refusal.why), refusal.at as u64),
     }
 }
 
 // Reads until the buffer is full, the input ends or a read fails, and answers how many bytes it put at the front.
+// A `while`: how much each read gives, only the read tells.
 fn read_full(from: &mut impl Read, bytes: &mut [u8]) -> usize
     ensures { result ≤ length bytes.new }
 {
     let mut done = 0;
+    // How much a read gives only the read tells, so it is a `while`.
     while done < bytes.len() {
-        let got = match from.read(&mut bytes[done..]) {
-            Ok(n) => n,
-            Err(_) => 0,
-        };
-        if got == 0 {
-            break;
+        match from.read(&mut bytes[done..]) {
+            Ok(n) if 0 < n => done += n,
+            _ => break,
         }
-        done += got;
     }
     done
 }

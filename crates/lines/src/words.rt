@@ -1,27 +1,16 @@
-// The words of a line, with blanks or tabs between them, and what a word says: a number, or bytes. It rests on nothing.
+// The words of a line, with blanks or tabs between them, and what a word says: a number, or bytes. It rests on std.
 // What each function answers is an equation with a definition of specs/Words.antt, over the list of the line's bytes.
 ghost use Rattle.std.specs.Prelude.{◌≡◌, ◌&&◌, [], ◌+◌, ◌≤◌, length, drop};
-ghost use Rattle.lines.specs.Words.{passed, trimmed_line, run, start_of, word_at, same_bytes, remark};
-ghost use Rattle.lines.specs.Words.{digit_of, with_digit, number_said, size_said, pair_said, paired, bytes_said, Laid};
-
-// The largest number of 64 bits.
-const MOST: u64 = 18446744073709551615;
-
-// How many bytes a word says that says none, or more than its buffer holds.
-const NO_BYTES: usize = 18446744073709551615;
+ghost use Rattle.std.specs.Str.{bytes_eq};
+ghost use Rattle.lines.specs.Words.{passed, trimmed_line, run, start_of, word_at, remark};
+ghost use Rattle.lines.specs.Words.{digit_of, with_digit, number_said, pair_said, paired, bytes_said, Laid};
 
 // Whether a byte belongs to these: blanks and tabs, or all others.
 #[tactic(auto, unfolding(crate::specs::Words::passed))]
 fn passes(b: u8, blanks: bool) -> bool
     ensures { result ≡ passed blanks b }
 {
-    if b == b' ' {
-        return blanks;
-    }
-    if b == b'\t' {
-        return blanks;
-    }
-    !blanks
+    matches!(b, b' ' | b'\t') == blanks
 }
 
 // A line without the carriage return at its end.
@@ -29,14 +18,18 @@ fn passes(b: u8, blanks: bool) -> bool
 pub fn trimmed(line: &[u8]) -> &[u8]
     ensures { result.now ≡ trimmed_line line.now }
 {
-    let n = line.len();
-    if n > 0 {
-        let last = n - 1;
-        if line[last] == b'\r' {
-            return &line[0..last];
-        }
+    match line {
+        [front @ .., b'\r'] => front,
+        _ => line,
     }
-    line
+}
+
+// How many bytes at the front do.
+fn run(line: &[u8], blanks: bool) -> usize
+    ensures is { result ≡ run blanks line.now }
+    ensures inside { result ≤ length line.now }
+{
+    line.iter().take_while(|b| passes(**b, blanks)).count()
 }
 
 // Where the blanks from a place on end, or what is not blank.
@@ -44,31 +37,23 @@ fn end_of(line: &[u8], from: usize, blanks: bool) -> usize
     requires { from ≤ length line.now }
     ensures { (result ≡ from + run blanks (drop from line.now)) × (result ≤ length line.now) }
 {
-    let mut i = from;
-    while i < line.len() {
-        if passes(line[i], blanks) {
-            i += 1;
-        } else {
-            return i;
-        }
-    }
-    i
+    from + run(&line[from..], blanks)
 }
 
 // Where the n-th word starts, counted from 0; the line's length where there is none.
+#[tactic(auto, using(crate::proofs::Spelled::start_first, crate::proofs::Spelled::start_more))]
 fn start_of(line: &[u8], n: usize) -> usize
     ensures { (result ≡ start_of line.now n) × (result ≤ length line.now) }
 {
     let mut at = end_of(line, 0, true);
-    let mut k = 0;
-    while k < n {
+    for _k in 0..n {
         at = end_of(line, end_of(line, at, false), true);
-        k += 1;
     }
     at
 }
 
 // The n-th word; empty where there is none.
+#[tactic(auto, unfolding(crate::specs::Words::word_at))]
 fn word(line: &[u8], n: usize) -> &[u8]
     ensures { result.now ≡ word_at line.now n }
 {
@@ -77,172 +62,86 @@ fn word(line: &[u8], n: usize) -> &[u8]
     &line[start..end]
 }
 
-fn same(a: &[u8], b: &[u8]) -> bool
-    ensures { result ≡ same_bytes a.now b.now }
-{
-    if a.len() != b.len() {
-        return false;
-    }
-    let mut i = 0;
-    while i < a.len() {
-        if a[i] != b[i] {
-            return false;
-        }
-        i += 1;
-    }
-    true
-}
-
 // Whether a line has no words, or its first starts with #.
 #[tactic(auto, unfolding(crate::specs::Words::remark))]
 pub fn says_nothing(line: &[u8]) -> bool
     ensures { result ≡ remark (word_at line.now 0) }
 {
-    let first = word(line, 0);
-    if first.len() > 0 {
-        return first[0] == b'#';
+    match word(line, 0) {
+        [first, ..] => *first == b'#',
+        [] => true,
     }
-    true
 }
 
 // Whether a line starts with this word, and has no more than so many.
 pub fn asks(line: &[u8], first: &[u8], most: usize) -> bool
-    ensures { result ≡ (same_bytes (word_at line.now most) [] && same_bytes (word_at line.now 0) first.now) }
+    ensures { result ≡ (bytes_eq (word_at line.now most) [] && bytes_eq (word_at line.now 0) first.now) }
 {
-    if same(word(line, most), b"") {
-        return same(word(line, 0), first);
-    }
-    false
-}
-
-// A digit in hexadecimal; 16 for what is none.
-#[tactic(auto, unfolding(crate::specs::Words::digit_of))]
-fn digit(b: u8) -> u8
-    ensures { result ≡ digit_of b }
-{
-    if b < b'0' {
-        16
-    } else if b <= b'9' {
-        b - b'0'
-    } else if b < b'A' {
-        16
-    } else if b <= b'F' {
-        b - 55
-    } else if b < b'a' {
-        16
-    } else if b <= b'f' {
-        b - 87
-    } else {
-        16
-    }
-}
-
-// The number that a word says, if it says one of 64 bits.
-#[derive(Clone, Copy)]
-pub enum Said {
-    Nothing,
-    Is(u64),
+    word(line, most).is_empty() && word(line, 0) == first
 }
 
 // A number with one more decimal digit.
-#[tactic(auto, unfolding(crate::specs::Words::with_digit))]
-fn with_digit(n: u64, b: u8) -> Said
+#[tactic(auto, unfolding(crate::specs::Words::with_digit, crate::specs::Words::digit_of))]
+fn with_digit(n: u64, b: u8) -> Option<u64>
     ensures { result ≡ with_digit n (digit_of b) }
 {
-    let d = digit(b) as u64;
-    if d > 9 {
-        return Said::Nothing;
-    }
-    if n > (MOST - d) / 10 {
-        return Said::Nothing;
-    }
-    Said::Is(n * 10 + d)
+    let d = char::from(b).to_digit(10)?;
+    n.checked_mul(10)?.checked_add(u64::from(d))
 }
 
-fn value(word: &[u8]) -> Said
+// The number of 64 bits that a word says in decimal, if it says one. (std's parse would take a sign, which says none here.)
+fn value(word: &[u8]) -> Option<u64>
     ensures { result ≡ number_said word.now }
 {
-    let mut n: u64 = 0;
-    let mut i = 0;
-    while i < word.len() {
-        let more = with_digit(n, word[i]);
-        let Said::Is(m) = more else {
-            return Said::Nothing;
-        };
-        n = m;
-        i += 1;
+    if word.is_empty() {
+        return None;
     }
-    if i == 0 {
-        return Said::Nothing;
+    let mut n = 0;
+    for b in word {
+        n = with_digit(n, *b)?;
     }
-    Said::Is(n)
+    Some(n)
 }
 
-// The number that the n-th word says in decimal.
-pub fn number(line: &[u8], n: usize) -> Said
+// The number that the n-th word says.
+pub fn number(line: &[u8], n: usize) -> Option<u64>
     ensures { result ≡ number_said (word_at line.now n) }
 {
     value(word(line, n))
 }
 
-// The same as a size; where it says none, one larger than any buffer.
-pub fn size(line: &[u8], n: usize) -> usize
-    ensures { result ≡ size_said (number_said (word_at line.now n)) }
-{
-    let said = number(line, n);
-    match said {
-        Said::Nothing => MOST as usize,
-        Said::Is(k) => k as usize,
-    }
-}
-
-// The byte that two hexadecimal digits say; 256 where one is none.
-#[tactic(auto, unfolding(crate::specs::Words::pair_said))]
-fn pair(h: u8, l: u8) -> u16
+// The byte that two hexadecimal digits say.
+#[tactic(auto, unfolding(crate::specs::Words::pair_said, crate::specs::Words::digit_of))]
+fn pair(h: u8, l: u8) -> Option<u8>
     ensures { result ≡ pair_said h l }
 {
-    let high = digit(h) as u16;
-    if high > 15 {
-        return 256;
-    }
-    let low = digit(l) as u16;
-    if low > 15 {
-        return 256;
-    }
-    high * 16 + low
+    let high = char::from(h).to_digit(16)?;
+    let low = char::from(l).to_digit(16)?;
+    Some((high * 16 + low) as u8)
 }
 
-// Lays the bytes that hexadecimal digits say, two digits each.
-fn lay(word: &[u8], to: &mut [u8]) -> usize
+// Lays the bytes that hexadecimal digits say, two digits each. (By index: of what a zip with the buffer's places writes no contract says anything.)
+fn lay(word: &[u8], to: &mut [u8]) -> Option<usize>
     ensures { Laid (paired word.now) to.old to.new result }
 {
     let n = word.len() / 2;
-    if word.len() % 2 == 1 {
-        return NO_BYTES;
+    if word.len() % 2 == 1 || n > to.len() {
+        return None;
     }
-    if n > to.len() {
-        return NO_BYTES;
+    for k in 0..n {
+        to[k] = pair(word[2 * k], word[2 * k + 1])?;
     }
-    let mut k = 0;
-    while k < n {
-        let b = pair(word[2 * k], word[2 * k + 1]);
-        if b > 255 {
-            return NO_BYTES;
-        }
-        to[k] = b as u8;
-        k += 1;
-    }
-    n
+    Some(n)
 }
 
-// Lays the bytes that the n-th word says in hexadecimal, and answers how many they are: more than there are anywhere if it says none.
+// Lays the bytes that the n-th word says in hexadecimal, and answers how many they are, if it says some and the buffer has room for them.
 // A - says that there are 0, and so does a word that is not there.
-pub fn bytes(line: &[u8], n: usize, to: &mut [u8]) -> usize
+pub fn bytes(line: &[u8], n: usize, to: &mut [u8]) -> Option<usize>
     ensures { Laid (bytes_said (word_at line.now n)) to.old to.new result }
 {
     let word = word(line, n);
-    if same(word, b"-") {
-        return 0;
+    if word == b"-".as_slice() {
+        return Some(0);
     }
     lay(word, to)
 }

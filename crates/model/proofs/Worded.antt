@@ -1,10 +1,12 @@
--- The words of a model as its writer lays them: rows one behind the other, the label and the edges of each element, the names of a set. Assumes nothing.
+-- The words of a model as its writer lays them: rows one behind the other, the label and the edges of each element, the names that hold. Assumes nothing.
 use Prim.Native.Nat.{ℕ, zero, suc, ◌+◌, ◌-◌, ◌*◌, ◌/◌, ◌%◌, ◌^◌, ◌≤◌, ◌<◌}
 use mathlib.Core.Bool.{Bool, true, false, ◌&&◌, ◌||◌, cond}
+use mathlib.Core.HLevel.{⊥_prop}
 use mathlib.Core.Path.{◌≡◌, refl, sym, ◌∙◌, ap, ap₂, subst}
-use mathlib.Core.Logic.{⊎_elim}
+use mathlib.Core.Logic.{◌⊎◌, inl, inr, ⊎_elim, ∥∥₁_elim, ∥∥₁_map}
 use mathlib.Core.List.Memᴰ
 use mathlib.Core.List.{List, [], ◌∷◌, ◌++◌, map, map-append, append_assoc, append-nil}
+use native.Mathlib.Bridge.{le_prop}
 use native.Mathlib.Nat.{mul-le-mul}
 use native.Mathlib.Omega.{arith}
 use lib.ListN.{length, drop_of_length-le, get_or, take, drop, set, length-append, length-drop, length-map, take-append-drop}
@@ -12,29 +14,31 @@ use lib.Seq.{length-take-le, take_all, drop-cons, set_at, append_snoc, take-suc,
 use lib.Dec.{eqb, ltb}
 use lib.Bits.{bit_or, or_lt}
 use borrow.Author.Tests.{ltb-true, ltb-false, eq-eqb, ne_eqb}
+use Rattle.std.specs.Prelude.{max}
 use Rattle.alc.specs.Bits.{bit, put}
-use Rattle.alc.specs.Lists.{◌∈◌, Distinct, any, all, each, up_to}
-use Rattle.alc.specs.Sheet.{Sheet, count, line, line_in_limits, in_limits, name_count, role_count}
+use Rattle.alc.specs.Lists.{◌∈◌, Distinct, any, each, up_to}
+use Rattle.alc.specs.declared.Line.{Line}
+use Rattle.alc.specs.declared.Line.TheVariants.{Top as top, Bottom as bottom, Name as name, Not as negation, And as and, Or as or, Some as some, Only as only}
+use Rattle.alc.specs.Sheet.{Sheet, count, line, line_in_limits, in_limits, role_count}
 use Rattle.alc.specs.declared.Label.{Label}
 use Rattle.alc.specs.Label.{is_name}
 use Rattle.alc.specs.Settle as theory
 use Rattle.alc.specs.Settle.{label}
-use Rattle.alc.specs.Seeds.{asks}
+use Rattle.alc.specs.Seeds.{among, asks, seed_survives, universe}
 use Rattle.alc.specs.Model.{leads, asserted, chosen, label_at, edge_at, model_edges, name_mask, model_seeds, model_words}
 use Rattle.alc.specs.Model as model
-use Rattle.alc.proofs.Theorems.Lists.{and_left, and_right, and_both, and-false-left, and-false-right, or_right, cond-elim, each_append, each-elim, all-elim, get_or-in, length_from, same?, up_to-more}
+use Rattle.alc.proofs.Theorems.Lists.{cases, clashing, and_both, and-false-left, and-false-right, or_right, cond-elim, each_append, each-elim, get_or-in, length_from, same?, up_to-more}
 use Rattle.alc.proofs.Theorems.Counting.{length-each}
 use Rattle.alc.proofs.Theorems.Bits.{bit-none, bit-put, bit-put-other, put_word, bit-ext-below}
+use Rattle.alc.proofs.Theorems.Seeds.{among_in, among-true}
+use Rattle.alc.proofs.Theorems.Sheet.{lines-limited}
 use Rattle.alc.proofs.Theorems.Words.{mask-small, mask-bit}
-use Rattle.sheet.specs.Form.{line_from}
-use Rattle.tableau.specs.declared.joint.Labels.{Labels}
-use Rattle.edges.specs.declared.Edges.{Edges}
-use Rattle.plan.specs.Plan.{plan_sheet, Prepared}
+use Rattle.tableau.specs.declared.labels.Labels.{Labels}
+use Rattle.edges.specs.declared.keys.Edges.{Edges}
 use Rattle.tableau.specs.Records.{label_of, recorded}
 use Rattle.tableau.specs.Joints.{joint_of}
 use Rattle.edges.specs.Keys.{SeedsIn, keys_of, edge_of, edges_from}
-use Rattle.model.specs.Laid.{Ready, named, masks_of, words_of}
-use Rattle.plan.proofs.Lines.{line-of-kind}
+use Rattle.model.specs.Laid.{Ready, mask_of, masks_of, words_of}
 use Rattle.engine.proofs.Ledgers.{recorded-at, length-recorded}
 
 -- ---- one more of a range
@@ -120,10 +124,14 @@ module _ (x : ℕ) (keys : List ℕ) {start i at : ℕ} {buf out : List ℕ} (g 
       let two : at + 2 ≡ suc (suc at) = omega arith in
       rw (one, two) (lay-sets (λ k. edge_of x (get_or keys k 0)) start buf g (edge_of x (get_or keys i 0)) (at + 3) refl refl fits)
 
-  pub laid-edges : (n : ℕ) → i ≡ n → n ≤ length keys → (at ≡ start + 3 * n) × (out ≡ take start buf ++ (each (edge_of x) (take n keys) ++ drop (start + 3 * n) buf))
-  laid-edges n e b =
+  -- all are laid: n of them, the keys ks
+  pub laid-edges : i ≡ length keys → (n : ℕ) → n ≡ length keys → (ks : List ℕ) → keys ≡ ks
+      → (at ≡ start + 3 * n) × (out ≡ take start buf ++ (each (edge_of x) ks ++ drop (start + 3 * n) buf))
+  laid-edges e n b ks q =
       let place : at ≡ start + 3 * n = omega (arith, edge-place) in
-      (place, g.words ∙ rw (place, e, each-taken (edge_of x) keys n b))
+      let all : each (λ k. edge_of x (get_or keys k 0)) (up_to i) ≡ each (edge_of x) ks =
+      each-taken (edge_of x) keys i (omega arith) ∙ ap (each (edge_of x)) (take_all i keys (omega arith) ∙ q) in
+      (place, g.words ∙ ap₂ (λ (r : List ℕ) (k : ℕ). take start buf ++ (r ++ drop k buf)) all place)
 
 -- ---- sections of words, each in the part of the buffer behind the last
 abbrev pub written : List ℕ → List ℕ → List ℕ
@@ -175,7 +183,7 @@ module _ (s : Sheet) (J : theory.Joint) (B : List Label) where
   edge_words x = each (λ e. e) (edges_at x)
 
   abbrev pub mask_words : ℕ → List ℕ
-  mask_words x = name_mask s (label_at J B (chosen s) x) name_count ∷ []
+  mask_words x = mask_of s (label_at J B (chosen s) x) ∷ []
 
   edges-by-rows : model_edges s J B (chosen s) ≡ each edges_at (up_to size)
   unfolding model_edges edges_from edge_at
@@ -186,7 +194,7 @@ module _ (s : Sheet) (J : theory.Joint) (B : List Label) where
 
   masks-by-rows : masks_of s J B ≡ each mask_words (up_to size)
   unfolding masks_of
-  masks-by-rows = each-one (λ x. name_mask s (label_at J B (chosen s) x) name_count) (up_to size)
+  masks-by-rows = each-one (λ x. mask_of s (label_at J B (chosen s) x)) (up_to size)
 
   -- an edge is three words
   threes : (l : Label) (x : ℕ) (e : List ℕ) → e ∈ edges_from s J B l x → length e ≡ 3
@@ -221,7 +229,7 @@ module _ (s : Sheet) (J : theory.Joint) (B : List Label) where
 
   pub masks-length : length (masks_of s J B) ≡ size
   unfolding masks_of
-  masks-length = length-map (up_to size) (λ x. name_mask s (label_at J B (chosen s) x) name_count) ∙ length_from 0 size
+  masks-length = length-map (up_to size) (λ x. mask_of s (label_at J B (chosen s) x)) ∙ length_from 0 size
 
   pub words-length : length (words_of s J B) ≡ 2 + size + 3 * length (model_edges s J B (chosen s))
   unfolding words_of
@@ -236,61 +244,106 @@ module _ (s : Sheet) (J : theory.Joint) (B : List Label) where
 
 -- at the model's seeds they are the model's words
 pub words_are : (s : Sheet) (J : theory.Joint) → words_of s J (model_seeds s J) ≡ model_words s J
-unfolding words_of masks_of model_words
+unfolding words_of masks_of mask_of model_words
 words_are s J = refl
 
+-- ---- the fact of the elements: it is stored as one at most, and each of its parts can be told
+in? : (l : Label) (C : List Label) → (l ∈ C) ⊎ (l ∈ C → ⊥)
+in? l C = ⊎_elim (λ (e : among l C ≡ true). inl (among-true l C e)) (λ (e : among l C ≡ false). inr (λ m. clashing (among l C) (among_in l C m) e)) (cases (among l C))
+
+is_true? : (b : Bool) → (b ≡ true) ⊎ (b ≡ true → ⊥)
+is_true? b = ⊎_elim inl (λ (e : b ≡ false). inr (λ t. clashing b t e)) (cases b)
+
+told : {P : Type 0} → P ⊎ (P → ⊥) → ∥ P ∥₁ → P
+told o t = ⊎_elim (λ p. p) (λ n. absurd (∥∥₁_elim t ⊥_prop n)) o
+
+distinct-of : {A : Type 0} (C : List A) → ∥ Distinct C ∥₁ → Distinct C
+distinct-of [] t = tt
+distinct-of (l ∷ C) t = (λ m. ∥∥₁_elim t ⊥_prop (λ d. d.0 m), distinct-of C (∥∥₁_map t (λ d. d.1)))
+
+module _ {s : Sheet} {j : Labels} {used seeds : ℕ} {recs marks : List ℕ} (t : ∥ Ready s j used seeds recs marks ∥₁) where
+  abbrev told-in : (l : Label) (C : List Label) → (Ready s j used seeds recs marks → l ∈ C) → l ∈ C
+  told-in l C h = told (in? l C) (∥∥₁_map t h)
+
+  pub ready-of : Ready s j used seeds recs marks
+  ready-of = record {
+    sound = record {
+      lent = record {
+        enough = ∥∥₁_elim t le_prop (λ r. r.sound.lent.enough);
+        marked = ∥∥₁_elim t le_prop (λ r. r.sound.lent.marked);
+        distinct = distinct-of (recorded used recs) (∥∥₁_map t (λ r. r.sound.lent.distinct));
+      };
+      known = record {
+        distinct = distinct-of (recorded used recs) (∥∥₁_map t (λ r. r.sound.known.distinct));
+        known = λ l m. told-in l (universe s) (λ r. r.sound.known.known l m);
+      };
+      closed = λ l m k n q o. told-in q.seed (recorded used recs) (λ r. r.sound.closed l m k n q o);
+      right = λ i b. (
+        λ z. told (is_true? (seed_survives s (label_of (get_or recs i 0)))) (∥∥₁_map t (λ r. (r.sound.right i b).0 z)),
+        λ e. told (same? (get_or marks i 0) 0) (∥∥₁_map t (λ r. (r.sound.right i b).1 e)),
+      );
+    };
+    fit = record { each-one = told (same? j.count (max 1 s.individuals)) (∥∥₁_map t (λ r. r.fit.each-one)) };
+    front = ∥∥₁_elim t le_prop (λ r. r.front);
+    few = ∥∥₁_elim t le_prop (λ r. r.few);
+    complete = record {
+      asked = λ k m q n. told-in q (recorded seeds recs) (λ r. r.complete.asked k m q n);
+      onward = λ l m q n. told-in q (recorded seeds recs) (λ r. r.complete.onward l m q n);
+    };
+  }
+
 -- ---- the label of an element
+pub long : (j : Labels) → length j.labels ≡ 8 → length (joint_of j) ≡ j.count
+long j full = length-take-le j.count j.labels (omega (arith, j.small))
+
 -- what stands in front of a list without repeats
 distinct-front : {A : Type 0} (xs ys : List A) → Distinct (xs ++ ys) → Distinct xs
 distinct-front [] ys d = tt
 distinct-front (x ∷ xs) ys (new, d) = (λ m. new (Memᴰ.append_left ys m), distinct-front xs ys d)
 
 module _ {s : Sheet} {j : Labels} {used seeds : ℕ} {recs marks : List ℕ} (r : Ready s j used seeds recs marks) (long : length (joint_of j) ≡ j.count) where
-  abbrev seeds_of : List Label
-  seeds_of = recorded seeds recs
+  abbrev first-ones : List Label
+  first-ones = recorded seeds recs
 
-  pub seeds-length : length seeds_of ≡ seeds
+  pub seeds-length : length first-ones ≡ seeds
   seeds-length = length-recorded seeds recs (omega (arith, r.front, r.sound.lent.enough))
 
-  pub seeds-distinct : Distinct seeds_of
+  pub seeds-distinct : Distinct first-ones
   seeds-distinct =
       let more : used ≡ seeds + (used - seeds) = omega (arith, r.front) in
-      let parts : recorded used recs ≡ seeds_of ++ map label_of (take (used - seeds) (drop seeds recs)) =
+      let parts : recorded used recs ≡ first-ones ++ map label_of (take (used - seeds) (drop seeds recs)) =
       ap (λ (n : ℕ). recorded n recs) more ∙ ap (map label_of) (take-add seeds (used - seeds) recs) ∙ map-append label_of (take seeds recs) (take (used - seeds) (drop seeds recs)) in
-      distinct-front seeds_of (map label_of (take (used - seeds) (drop seeds recs))) (subst (λ (C : List Label). Distinct C) parts r.sound.lent.distinct)
+      distinct-front first-ones (map label_of (take (used - seeds) (drop seeds recs))) (subst (λ (C : List Label). Distinct C) parts r.sound.lent.distinct)
 
-  -- l is what the code finds at element x, by all the records; the model's seeds stand in front
-  module _ (x : ℕ) (b : x < j.count + seeds) (l : Label) (is : l ≡ label_at (joint_of j) (recorded used recs) (chosen s) x) where
-    pub element-label : l ≡ label_at (joint_of j) seeds_of (chosen s) x
+  module _ (x : ℕ) (b : x < j.count + seeds) where
+    -- the label of element x by all the records: the model's seeds stand in front
+    pub element-label : label_at (joint_of j) (recorded used recs) (chosen s) x ≡ label_at (joint_of j) first-ones (chosen s) x
     unfolding label_at
-    element-label = is ∙ go (ltb x (length (joint_of j))) refl
+    element-label = go (ltb x (length (joint_of j))) refl
       where
         go : (t : Bool) → ltb x (length (joint_of j)) ≡ t
             → cond t (label (joint_of j) x) (chosen s (label (recorded used recs) (x - length (joint_of j))))
-            ≡ cond t (label (joint_of j) x) (chosen s (label seeds_of (x - length (joint_of j))))
+            ≡ cond t (label (joint_of j) x) (chosen s (label first-ones (x - length (joint_of j))))
         go true e = refl
         go false e =
             let h = ltb-false x (length (joint_of j)) e in
             ap (chosen s) (recorded-at used recs (x - length (joint_of j)) (omega (arith, long, r.front))
             ∙ sym (recorded-at seeds recs (x - length (joint_of j)) (omega (arith, long))))
 
-    pub element-edges : edges_from s (joint_of j) seeds_of l x ≡ edges_at s (joint_of j) seeds_of x
-    element-edges = ap (λ (k : Label). edges_from s (joint_of j) seeds_of k x) element-label
-
-    pub element-seeds : SeedsIn s l seeds_of
+    pub element-seeds : SeedsIn s (label_at (joint_of j) first-ones (chosen s) x) first-ones
     unfolding label_at
-    element-seeds = subst (λ (k : Label). SeedsIn s k seeds_of) (sym element-label) (go (ltb x (length (joint_of j))) refl)
+    element-seeds = go (ltb x (length (joint_of j))) refl
       where
-        go : (t : Bool) → ltb x (length (joint_of j)) ≡ t → SeedsIn s (cond t (label (joint_of j) x) (chosen s (label seeds_of (x - length (joint_of j))))) seeds_of
+        go : (t : Bool) → ltb x (length (joint_of j)) ≡ t → SeedsIn s (cond t (label (joint_of j) x) (chosen s (label first-ones (x - length (joint_of j))))) first-ones
         go true e = r.complete.asked (label (joint_of j) x) (get_or-in (joint_of j) x _ (ltb-true x (length (joint_of j)) e))
         go false e =
             let h = ltb-false x (length (joint_of j)) e in
-            r.complete.onward (label seeds_of (x - length (joint_of j))) (get_or-in seeds_of (x - length (joint_of j)) _ (omega (arith, long, seeds-length)))
+            r.complete.onward (label first-ones (x - length (joint_of j))) (get_or-in first-ones (x - length (joint_of j)) _ (omega (arith, long, seeds-length)))
 
 -- the edges from x, as the code has them: the keys of an array of 48
-module _ (e : Edges) (full : length e.keys ≡ 48) (b : e.count ≤ 48) (x : ℕ) (rows : List (List ℕ)) (is : map (edge_of x) (keys_of e) ≡ rows) where
+module _ (e : Edges) (full : length e.keys ≡ 48) (x : ℕ) (rows : List (List ℕ)) (is : map (edge_of x) (keys_of e) ≡ rows) where
   keys_length : length (keys_of e) ≡ e.count
-  keys_length = length-take-le e.count e.keys (omega arith)
+  keys_length = length-take-le e.count e.keys (omega (arith, e.few))
 
   pub row_count : length rows ≡ e.count
   row_count = ap length (sym is) ∙ length-map (keys_of e) (edge_of x) ∙ keys_length
@@ -302,18 +355,9 @@ module _ (e : Edges) (full : length e.keys ≡ 48) (b : e.count ≤ 48) (x : ℕ
   word_count = length-each (edge_of x) 3 (keys_of e) (λ _ _. refl) ∙ omega (arith, keys_length)
 
 -- ---- the loops over all elements
--- only marks that hold make names
-mask-holding : (s : Sheet) (l : Label) (n : ℕ) → name_mask s l n ≡ name_mask s (record { holding = l.holding; failing = 0 }) n
-unfolding model.named
-mask-holding s l zero = refl
-mask-holding s l (suc n) = ap (λ (m : ℕ). m + cond (model.named s l n) (2 ^ n) 0) (mask-holding s l n)
-
 module _ (s : Sheet) (J : theory.Joint) (B : List Label) {buf : List ℕ} {x : ℕ} {out : List ℕ} where
-  pub lay-mask : Laying (mask_words s J B) 0 buf x x out → x < length buf → (l : Label) (v : ℕ) → l ≡ label_at J B (chosen s) x → v ≡ named s l.holding
-      → Laying (mask_words s J B) 0 buf (x + 1) (x + 1) (set out x v)
-  lay-mask g b l v is e =
-      let same : name_mask s (label_at J B (chosen s) x) name_count ≡ v = ap (λ (k : Label). name_mask s k name_count) (sym is) ∙ mask-holding s l name_count ∙ sym e in
-      lay-sets (mask_words s J B) 0 buf g (v ∷ []) (x + 1) (ap (λ (w : ℕ). w ∷ []) same) refl (omega arith)
+  pub lay-mask : Laying (mask_words s J B) 0 buf x x out → x < length buf → (v : ℕ) → v ≡ mask_of s (label_at J B (chosen s) x) → Laying (mask_words s J B) 0 buf (x + 1) (x + 1) (set out x v)
+  lay-mask g b v e = lay-sets (mask_words s J B) 0 buf g (v ∷ []) (x + 1) (ap (λ (w : ℕ). w ∷ []) (sym e)) refl (omega arith)
 
   pub laid-masks : Laying (mask_words s J B) 0 buf x x out → (n : ℕ) → x ≡ n → n ≡ size s J B → out ≡ masks_of s J B ++ drop n buf
   laid-masks g n e f =
@@ -326,7 +370,7 @@ module _ (s : Sheet) (J : theory.Joint) (B : List Label) {buf : List ℕ} {x at 
       let end : at ≡ 3 * length (model_edges s J B (chosen s)) = omega (arith, g.behind, ap length all, edges-length s J B) in
       g.words ∙ ap₂ (λ (r : List ℕ) (k : ℕ). r ++ drop k buf) (all ∙ sym (edge-words s J B)) end
 
-  module _ (e : Edges) (full : length e.keys ≡ 48) (b : e.count ≤ 48) (is : map (edge_of x) (keys_of e) ≡ edges_at s J B x)
+  module _ (e : Edges) (full : length e.keys ≡ 48) (is : map (edge_of x) (keys_of e) ≡ edges_at s J B x)
       (inside : x < size s J B) (fits : 3 * length (model_edges s J B (chosen s)) ≤ length buf) where
     pub row_room : at + 3 * e.count ≤ length buf
     row_room =
@@ -334,37 +378,27 @@ module _ (s : Sheet) (J : theory.Joint) (B : List Label) {buf : List ℕ} {x at 
         let whole : x + 1 + n ≡ size s J B = omega arith in
         let upon : length (each (edge_words s J B) (up_to (x + 1))) ≤ length (each (edge_words s J B) (up_to (size s J B))) =
         subst (λ (k : ℕ). length (each (edge_words s J B) (up_to (x + 1))) ≤ length (each (edge_words s J B) (up_to k))) whole (length-below (edge_words s J B) (x + 1) n) in
-        omega (arith, g.behind, length_more (edge_words s J B) x, edges-length s J B, ap length (row_words e full b x (edges_at s J B x) is), word_count e full b x (edges_at s J B x) is)
+        omega (arith, g.behind, length_more (edge_words s J B) x, edges-length s J B, ap length (row_words e full x (edges_at s J B x) is), word_count e full x (edges_at s J B x) is)
 
     pub lay-row : (at' : ℕ) (out' : List ℕ) → at' ≡ at + 3 * e.count → out' ≡ take at out ++ (each (edge_of x) (keys_of e) ++ drop (at + 3 * e.count) out)
         → Laying (edge_words s J B) 0 buf (x + 1) at' out'
     lay-row at' out' further laid =
-        lay-on (edge_words s J B) 0 buf g (each (edge_of x) (keys_of e)) out' at' (row_words e full b x (edges_at s J B x) is)
-        (omega (arith, word_count e full b x (edges_at s J B x) is)) (omega (arith, row_room)) (laid ∙ rw further)
+        lay-on (edge_words s J B) 0 buf g (each (edge_of x) (keys_of e)) out' at' (row_words e full x (edges_at s J B x) is)
+        (omega (arith, word_count e full x (edges_at s J B x) is)) (omega (arith, row_room)) (laid ∙ rw further)
 
--- ---- the names of a set
--- only lines of kind 2 are names
-name-kind : (k a b c : ℕ) → is_name a (line_from k b c) ≡ (eqb k 2 && eqb a b)
-name-kind zero a b c = refl
-name-kind (suc zero) a b c = refl
-name-kind (suc (suc zero)) a b c = refl
-name-kind (suc (suc (suc zero))) a b c = refl
-name-kind (suc (suc (suc (suc zero)))) a b c = refl
-name-kind (suc (suc (suc (suc (suc zero))))) a b c = refl
-name-kind (suc (suc (suc (suc (suc (suc zero)))))) a b c = refl
-name-kind (suc (suc (suc (suc (suc (suc (suc k))))))) a b c =
-    let n = suc (suc (suc (suc (suc (suc (suc k)))))) in
-    sym (and-false-left (eqb n 2) (eqb a b) (ne_eqb n 2 (omega arith)))
+-- ---- the names that hold
+pub name-inside : (s : Sheet) → in_limits s ≡ true → (i : ℕ) → i < count s → (a : ℕ) → line s i ≡ name a → a < 32
+name-inside s lim i b a e = ltb-true a 32 (sym (ap line_in_limits e) ∙ lines-limited s lim (line s i) (get_or-in s.lines i _ b))
 
-module _ {p : List ℕ} (h : Prepared p) where
-  pub name-inside : (i : ℕ) → i < count (plan_sheet p) → get_or p i 0 ≡ 2 → get_or p (32 + i) 0 < 32
-  unfolding in_limits
-  name-inside i b e =
-      let s = plan_sheet p in
-      let l : in_limits s ≡ true = h.limited in
-      let a : all line_in_limits s.lines ≡ true = search (and_left, and_right) in
-      ltb-true (get_or p (32 + i) 0) 32
-      (sym (ap line_in_limits (line-of-kind p i 2 b e)) ∙ all-elim line_in_limits s.lines a (line s i) (get_or-in s.lines i _ b))
+no-name : (c : Line) → ((n : ℕ) → c ≡ name n → ⊥) → (a : ℕ) → is_name a c ≡ false
+no-name top h a = refl
+no-name bottom h a = refl
+no-name (name n) h a = absurd (h n refl)
+no-name (negation i) h a = refl
+no-name (and i j) h a = refl
+no-name (or i j) h a = refl
+no-name (some r i) h a = refl
+no-name (only r i) h a = refl
 
 or-none : (a b : Bool) → b ≡ false → a ≡ (a || b)
 or-none true b e = refl
@@ -378,61 +412,52 @@ any_append : {A : Type 0} (p : A → Bool) (xs ys : List A) → any p (xs ++ ys)
 any_append p [] ys = refl
 any_append p (x ∷ xs) ys = ap (λ (b : Bool). p x || b) (any_append p xs ys) ∙ sym (or-more (p x) (any p xs) (any p ys))
 
--- line i is of name a, and in the set
-abbrev pub names_at : List ℕ → ℕ → ℕ → ℕ → Bool
-names_at p set a i = is_name a (line (plan_sheet p) i) && bit set i
+-- line i is of name a, and holds
+abbrev pub names_at : Sheet → Label → ℕ → ℕ → Bool
+names_at s l a i = is_name a (line s i) && bit l.holding i
 
--- the mask has the names of the lines below i that are in the set
-pub record Naming (p : List ℕ) (set i mask : ℕ) : Type 0 where
+-- the mask has the names of the lines below i that hold
+pub record Naming (s : Sheet) (l : Label) (i mask : ℕ) : Type 0 where
   pub small : mask < 2 ^ 32
-  pub names : (a : ℕ) → bit mask a ≡ any (names_at p set a) (up_to i)
+  pub names : (a : ℕ) → bit mask a ≡ any (names_at s l a) (up_to i)
 
-pub naming : (p : List ℕ) (set : ℕ) → Naming p set 0 0
-naming p set = record { small = omega arith; names = bit-none }
+pub naming : (s : Sheet) (l : Label) → Naming s l 0 0
+naming s l = record { small = omega arith; names = bit-none }
 
-pub all_named : {p : List ℕ} {set i mask : ℕ} → Naming p set i mask → i ≡ count (plan_sheet p) → mask ≡ named (plan_sheet p) set
-unfolding model.named
-all_named {p} {set} {i} {mask} g e =
-    let l : Label = record { holding = set; failing = 0 } in
-    bit-ext-below 32 mask (named (plan_sheet p) set) g.small (mask-small (plan_sheet p) l 32)
-    (λ a b. g.names a ∙ ap (λ (n : ℕ). any (names_at p set a) (up_to n)) e ∙ sym (mask-bit (plan_sheet p) l 32 a b))
+pub all_named : {s : Sheet} {l : Label} {i mask : ℕ} → Naming s l i mask → i ≡ count s → mask ≡ mask_of s l
+unfolding model.named mask_of
+all_named {s} {l} {i} {mask} g e =
+    bit-ext-below 32 mask (name_mask s l 32) g.small (mask-small s l 32)
+    (λ a b. g.names a ∙ ap (λ (n : ℕ). any (names_at s l a) (up_to n)) e ∙ sym (mask-bit s l 32 a b))
 
-module _ {p : List ℕ} {set i mask : ℕ} (g : Naming p set i mask) where
-  name-on : (new : ℕ) → new < 2 ^ 32 → ((a : ℕ) → bit new a ≡ (bit mask a || names_at p set a i)) → Naming p set (i + 1) new
+module _ {s : Sheet} {l : Label} {i mask : ℕ} (g : Naming s l i mask) where
+  name-on : (new : ℕ) → new < 2 ^ 32 → ((a : ℕ) → bit new a ≡ (bit mask a || names_at s l a i)) → Naming s l (i + 1) new
   name-on new b is = record {
     small = b;
-    names = λ a. let q = names_at p set a in
+    names = λ a. let q = names_at s l a in
         is a ∙ ap₂ (λ (x y : Bool). x || y) (g.names a) (or-none (q i) false refl) ∙ sym (any_append q (up_to i) (i ∷ [])) ∙ ap (any q) (sym (up_to-more i));
   }
 
-  name-skip : ((a : ℕ) → names_at p set a i ≡ false) → Naming p set (i + 1) mask
-  name-skip none = name-on mask g.small (λ a. or-none (bit mask a) (names_at p set a i) (none a))
+  name-skip : ((a : ℕ) → names_at s l a i ≡ false) → Naming s l (i + 1) mask
+  name-skip none = name-on mask g.small (λ a. or-none (bit mask a) (names_at s l a i) (none a))
 
-  -- line i is not in the set
-  pub skip-unset : bit set i ≡ false → Naming p set (i + 1) mask
-  skip-unset e = name-skip (λ a. and-false-right (is_name a (line (plan_sheet p) i)) (bit set i) e)
+  -- line i does not hold
+  pub skip-unset : bit l.holding i ≡ false → Naming s l (i + 1) mask
+  skip-unset e = name-skip (λ a. and-false-right (is_name a (line s i)) (bit l.holding i) e)
 
-  module _ (b : i < count (plan_sheet p)) where
-    abbrev name_at : ℕ
-    name_at = get_or p (32 + i) 0
+  -- it is no name
+  pub skip-other : ((n : ℕ) → line s i ≡ name n → ⊥) → Naming s l (i + 1) mask
+  skip-other differs = name-skip (λ a. and-false-left (is_name a (line s i)) (bit l.holding i) (no-name (line s i) differs a))
 
-    is_name_lem : (a k : ℕ) → get_or p i 0 ≡ k → is_name a (line (plan_sheet p) i) ≡ (eqb k 2 && eqb a name_at)
-    is_name_lem a k e = ap (is_name a) (line-of-kind p i k b e) ∙ name-kind k a name_at (get_or p (64 + i) 0)
-
-    -- it is no name
-    pub skip-other : (get_or p i 0 ≡ 2 → ⊥) → Naming p set (i + 1) mask
-    skip-other differs = name-skip (λ a.
-        and-false-left (is_name a (line (plan_sheet p) i)) (bit set i)
-        (is_name_lem a (get_or p i 0) refl ∙ and-false-left (eqb (get_or p i 0) 2) (eqb a name_at) (ne_eqb (get_or p i 0) 2 differs)))
-
-    -- it is a name
-    pub name-put : Prepared p → get_or p i 0 ≡ 2 → bit set i ≡ true → Naming p set (i + 1) (bit_or mask (1 * 2 ^ name_at % 2 ^ 32))
-    name-put h k e = name-on (bit_or mask (1 * 2 ^ name_at % 2 ^ 32)) (or_lt 32 mask (1 * 2 ^ name_at % 2 ^ 32) g.small (omega arith)) (λ a.
-        ap (λ (x : ℕ). bit x a) (put_word 32 name_at mask (name-inside h i b k))
-        ∙ ⊎_elim
-        (λ (q : name_at ≡ a). ap (bit (put mask name_at)) (sym q) ∙ bit-put mask name_at
-        ∙ sym (or_right (bit mask a) (names_at p set a i) (and_both (is_name a (line (plan_sheet p) i)) (bit set i) (is_name_lem a 2 k ∙ eq-eqb a name_at (sym q)) e)))
-        (λ q. bit-put-other mask name_at a q
-        ∙ or-none (bit mask a) (names_at p set a i)
-        (and-false-left (is_name a (line (plan_sheet p) i)) (bit set i) (is_name_lem a 2 k ∙ ne_eqb a name_at (λ r. q (sym r)))))
-        (same? name_at a))
+  -- it is a name
+  pub name-put : (n : ℕ) → line s i ≡ name n → n < 32 → bit l.holding i ≡ true → Naming s l (i + 1) (bit_or mask (1 * 2 ^ n % 2 ^ 32))
+  name-put n is b e =
+      let same : (a : ℕ) → is_name a (line s i) ≡ eqb a n = λ a. ap (is_name a) is in
+      name-on (bit_or mask (1 * 2 ^ n % 2 ^ 32)) (or_lt 32 mask (1 * 2 ^ n % 2 ^ 32) g.small (omega arith)) (λ a.
+      ap (λ (x : ℕ). bit x a) (put_word 32 n mask b)
+      ∙ ⊎_elim
+      (λ (q : n ≡ a). ap (bit (put mask n)) (sym q) ∙ bit-put mask n
+      ∙ sym (or_right (bit mask a) (names_at s l a i) (and_both (is_name a (line s i)) (bit l.holding i) (same a ∙ eq-eqb a n (sym q)) e)))
+      (λ q. bit-put-other mask n a q
+      ∙ or-none (bit mask a) (names_at s l a i) (and-false-left (is_name a (line s i)) (bit l.holding i) (same a ∙ ne_eqb a n (λ r. q (sym r)))))
+      (same? n a))

@@ -5,7 +5,7 @@ use Rattle.alc.specs.Sheet.{Sheet, name_count}
 use Rattle.alc.specs.declared.Label.{Label}
 use Rattle.alc.specs.Settle as theory
 use Rattle.alc.specs.Model.{name_mask, label_at, chosen, model_edges}
-use Rattle.tableau.specs.declared.joint.Labels.{Labels}
+use Rattle.tableau.specs.declared.labels.Labels.{Labels}
 use Rattle.tableau.specs.Records.{recorded}
 use Rattle.tableau.specs.Joints.{joint_of, Fit}
 use Rattle.order.specs.Sound.{Sound, Complete}
@@ -18,13 +18,13 @@ pub record Ready (s : Sheet) (j : Labels) (used seeds : ℕ) (recs marks : List 
   pub few : used ≤ 4096
   pub complete : Complete s (joint_of j) (recorded seeds recs)
 
--- the names of the lines of a set, as a mask
-abbrev pub named : Sheet → ℕ → ℕ
-named s set = name_mask s (record { holding = set; failing = 0 }) name_count
+-- the names that hold, as a mask
+unfoldable pub mask_of : Sheet → Label → ℕ
+mask_of s l = name_mask s l name_count
 
 -- a mask for each element
 unfoldable pub masks_of : Sheet → theory.Joint → List Label → List ℕ
-masks_of s J B = map (λ x. name_mask s (label_at J B (chosen s) x) name_count) (up_to (length J + length B))
+masks_of s J B = map (λ x. mask_of s (label_at J B (chosen s) x)) (up_to (length J + length B))
 
 -- all words; model_words is this at the model's seeds
 unfoldable pub words_of : Sheet → theory.Joint → List Label → List ℕ

@@ -1,2 +1,2 @@
--- The cases of a number.
-pub mod Numbers
+-- Laws of readings.
+pub mod Reading

@@ -1,6 +1,6 @@
 -- The model's seeds brought to the front of the records: what exchanging two records keeps, what one seed more at the front is,
 -- the loops that bring the seeds of a label and of a joint label, and the walk over the chosen expansions.
-use Prim.Native.Nat.{ℕ, zero, suc, ◌+◌, ◌-◌, ◌^◌, ◌≤◌, ◌<◌}
+use Prim.Native.Nat.{ℕ, zero, suc, ◌+◌, ◌-◌, ◌≤◌, ◌<◌}
 use mathlib.Core.Bool.{Bool, true, false, cond}
 use mathlib.Core.Path.{◌≡◌, refl, sym, ◌∙◌, ap, subst}
 use mathlib.Core.Logic.{⊎_elim}
@@ -9,18 +9,21 @@ use mathlib.Core.List.{List, [], ◌∷◌, ◌++◌, map, map-append}
 use lib.ListN.{length, take, drop, get_or, set, length-set, drop_of_length-le}
 use lib.Seq.{drop-cons, get_or-set_same, get_or-set_other, take-suc-set, take-set-le}
 use lib.Dec.{eqb}
-use lib.Bits.{bit_and, bit_or}
 use borrow.Author.Tests.{eq-eqb, ne_eqb, lt-ltb, le-ltb}
 use native.Mathlib.Numerals.{add-one}
 use native.Mathlib.Omega.{arith}
-use Rattle.alc.specs.Bits.{members}
-use Rattle.alc.specs.Lists.{◌∈◌, Distinct, Maybe, nothing, just, each, first}
-use Rattle.alc.specs.Sheet.{Sheet, count}
+use Rattle.std.specs.Prelude.{Option as Maybe, None as nothing, Some as just}
+use Rattle.std.specs.Option.{unwrap_or}
+use Rattle.std.specs.List.{swap}
+use Rattle.std.proofs.lemmas.List.Edits.{swap_is}
+use Rattle.alc.specs.Lists.{◌∈◌, Distinct, each, first}
+use Rattle.alc.specs.Sheet.{Sheet}
 use Rattle.alc.specs.declared.Label.{Label}
 use Rattle.alc.specs.Label.{blank}
 use Rattle.alc.specs.Settle as theory
 use Rattle.alc.specs.Settle.{label}
-use Rattle.alc.specs.Seeds.{Ask, asks, bound, expansions, fine, include, include_all, reach, seeds, seed_survives, served, successors, universe}
+use Rattle.alc.specs.declared.Ask.{Ask}
+use Rattle.alc.specs.Seeds.{asks, bound, expansions, fine, include, include_all, reach, seeds, seed_survives, served, successors, universe}
 use Rattle.alc.specs.Model.{or_blank, chosen, model_seeds, label_at}
 use Rattle.alc.proofs.Theorems.Lists.{cases, each-elim, here, same?, there}
 use Rattle.alc.proofs.Theorems.Moves.{label-of}
@@ -29,22 +32,18 @@ use Rattle.alc.proofs.Theorems.Counting.{pigeon}
 use Rattle.alc.proofs.Theorems.Bound.{length-universe}
 use Rattle.alc.proofs.Theorems.Sheet.{WellFormed}
 use Rattle.alc.proofs.Theorems.Decides.{chosen-next}
-use Rattle.alc.proofs.Theorems.Members.{members-none, Inside, lowest-of, rest_of, rest-each, rest-inside}
 use Rattle.tableau.specs.Records.{word_of, label_of, recorded, found_at}
-use Rattle.plan.specs.Plan.{plan_sheet, Prepared}
-use Rattle.tableau.specs.Joints.{joint_of}
-use Rattle.tableau.specs.Walks.{standing, picked_of}
-use Rattle.engine.specs.Ledger.{Known, Lent}
+use Rattle.tableau.specs.Walks.{Lent, standing}
+use Rattle.engine.specs.Ledger.{Known}
 use Rattle.edges.specs.Keys.{SeedsIn}
-use Rattle.order.specs.Sound.{Sound, exchanged, Shuffled}
-use Rattle.tableau.specs.declared.joint.Labels.{Labels}
-use Rattle.tableau.specs.declared.walks.Picked.{Picked}
-use Rattle.tableau.specs.declared.walks.Picked.TheVariants.{Nothing as none, Found as picked}
-use Rattle.tableau.proofs.Buffers.{distinct-place, found-label, in-found, seeds_at, asking-inside, seeds-asked}
+use Rattle.order.specs.Sound.{Sound, Shuffled}
+use Rattle.tableau.proofs.Buffers.{distinct-place, found-label, in-found}
 use Rattle.engine.proofs.Ledgers.{recorded-at, length-recorded, recorded-in, standing-in, stand-fine}
-use Rattle.engine.proofs.Strikes.{joint-at}
 
 -- ---- two places exchanged
+abbrev exchanged : List ℕ → ℕ → ℕ → List ℕ
+exchanged b i j = set (set b i (get_or b j 0)) j (get_or b i 0)
+
 -- where the word at place k was before
 abbrev origin : ℕ → ℕ → ℕ → ℕ
 origin i j k = cond (eqb k j) i (cond (eqb k i) j k)
@@ -230,8 +229,11 @@ module _ (used : ℕ) (recs marks : List ℕ) (lent : Lent used recs marks) (fro
   pub bring-there : place < front → Brought used recs marks (include (recorded front recs) l) front recs marks
   bring-there p< = (shuffled-none lent, front≤, bring-same p<)
 
-  pub bring-new : front ≤ place → Brought used recs marks (include (recorded front recs) l) (front + 1) (exchanged recs place front) (exchanged marks place front)
-  bring-new p≥ = (shuffled-one used recs marks lent place front bring-found (omega (arith, bring-found)), omega (arith, bring-found), bring-next p≥)
+  pub bring-new : (at : ℕ) → place ≡ at → front ≤ at → Brought used recs marks (include (recorded front recs) l) (front + 1) (swap recs at front) (swap marks at front)
+  bring-new at e p≥ =
+      let inside : at < used = omega (arith, bring-found) in
+      rw (← swap_is recs at front 0 (omega (arith, lent.enough)) (omega (arith, lent.enough)), ← swap_is marks at front 0 (omega (arith, lent.marked)) (omega (arith, lent.marked)), ← e)
+      (shuffled-one used recs marks lent place front bring-found (omega (arith, bring-found)), omega (arith, bring-found), bring-next (omega arith))
 
 -- by other names
 pub brought-as : {used : ℕ} {recs marks : List ℕ} {C D : List Label} {front front' : ℕ} {recs₁ marks₁ recs₂ marks₂ : List ℕ}
@@ -260,50 +262,36 @@ module _ {used : ℕ} {recs marks : List ℕ} {whole : List Label} {onward : Lis
   pub bringing-done : onward (recorded front recs') ≡ recorded front recs' → Brought used recs marks whole front recs' marks'
   bringing-done e = (g.shuffled, g.within, sym e ∙ g.rest)
 
--- ---- the seeds of a settled label, line by line
-abbrev lines_onward : List ℕ → Label → ℕ → List Label → List Label
-lines_onward p l left C = include_all C (each (seeds_at (plan_sheet p) l) (members 32 left))
+-- ---- the seeds of a settled label, in the order in which it asks
+abbrev asks_onward : List Ask → List Label → List Label
+asks_onward rest C = include_all C (map (λ (q : Ask). q.seed) rest)
 
-pub record BringingSeeds (p : List ℕ) (l : Label) (used start : ℕ) (recs marks : List ℕ) (front : ℕ) (recs' marks' : List ℕ) (left : ℕ) : Type 0 where
-  pub inside : Inside (count (plan_sheet p)) left
-  pub asked : (q : Label) → q ∈ each (seeds_at (plan_sheet p) l) (members 32 left) → q ∈ recorded used recs
-  pub loop : Bringing used recs marks (include_all (recorded start recs) (seeds (plan_sheet p) l)) (lines_onward p l left) front recs' marks'
+pub record BringingSeeds (used : ℕ) (recs marks : List ℕ) (whole : List Label) (rest : List Ask) (front : ℕ) (recs' marks' : List ℕ) : Type 0 where
+  pub asked : (q : Ask) → q ∈ rest → q.seed ∈ recorded used recs
+  pub loop : Bringing used recs marks whole (asks_onward rest) front recs' marks'
 
-pub seeds-start : {p : List ℕ} (l : Label) → Prepared p → l.holding < 2 ^ 32 → l.failing < 2 ^ 32 → (used start : ℕ) (recs marks : List ℕ)
-    → Lent used recs marks → start ≤ used → SeedsIn (plan_sheet p) l (recorded used recs)
-    → BringingSeeds p l used start recs marks start recs marks (bit_and (bit_or l.holding l.failing) (get_or p 390 0))
-seeds-start l pre h< f< used start recs marks lent start≤ seeds-in =
-    let e = seeds-asked l pre h< f< in record {
-      inside = asking-inside l pre h< f<;
-      asked = λ q i. seeds-in q (subst (λ (qs : List Label). q ∈ qs) e i);
-      loop = bringing start lent start≤ (ap (include_all (recorded start recs)) e);
+pub seeds-start : (s : Sheet) (l : Label) (rest : List Ask) → rest ≡ asks s l → (used start : ℕ) (recs marks : List ℕ) → Lent used recs marks → start ≤ used → SeedsIn s l (recorded used recs)
+    → BringingSeeds used recs marks (include_all (recorded start recs) (seeds s l)) rest start recs marks
+seeds-start s l rest is used start recs marks lent start≤ seeds-in = record {
+  asked = λ q i. seeds-in q.seed (Memᴰ.map (λ (k : Ask). k.seed) (subst (λ (qs : List Ask). q ∈ qs) is i));
+  loop = bringing start lent start≤ (ap (λ (qs : List Ask). asks_onward qs (recorded start recs)) is);
+}
+
+module _ {used : ℕ} {recs marks : List ℕ} {whole : List Label} {rest : List Ask} {front : ℕ} {recs' marks' : List ℕ} (g : BringingSeeds used recs marks whole rest front recs' marks') where
+  pub seeds-done : rest ≡ [] → Brought used recs marks whole front recs' marks'
+  seeds-done e = bringing-done g.loop (ap (λ (qs : List Ask). asks_onward qs (recorded front recs')) e)
+
+  module _ (q : Ask) (others : List Ask) (is : rest ≡ q ∷ others) where
+    -- the seed that is asked for next is recorded
+    pub seed-in : q.seed ∈ recorded used recs'
+    seed-in = still-in g.loop q.seed (g.asked q (subst (λ (qs : List Ask). q ∈ qs) (sym is) here))
+
+    pub seeds-on : {front' : ℕ} {recs₂ marks₂ : List ℕ} → Brought used recs' marks' (include (recorded front recs') q.seed) front' recs₂ marks₂
+        → BringingSeeds used recs marks whole others front' recs₂ marks₂
+    seeds-on b = record {
+      asked = λ k i. g.asked k (subst (λ (qs : List Ask). k ∈ qs) (sym is) (there i));
+      loop = bringing-on g.loop (asks_onward others) b (ap (λ (qs : List Ask). asks_onward qs (recorded front recs')) (sym is));
     }
-
-module _ {p : List ℕ} {l : Label} {used start : ℕ} {recs marks : List ℕ} {front : ℕ} {recs' marks' : List ℕ} {left : ℕ} (g : BringingSeeds p l used start recs marks front recs' marks' left) where
-  pub seeds-done : left ≡ 0 → Brought used recs marks (include_all (recorded start recs) (seeds (plan_sheet p) l)) front recs' marks'
-  seeds-done e = bringing-done g.loop (ap (λ ms. include_all (recorded front recs') (each (seeds_at (plan_sheet p) l) ms)) (ap (members 32) e ∙ members-none 32))
-
-  module _ (h : 0 < left) where
-    left-seeds : each (seeds_at (plan_sheet p) l) (members 32 left) ≡ seeds_at (plan_sheet p) l (lowest-of left) ++ each (seeds_at (plan_sheet p) l) (members 32 (rest_of left))
-    left-seeds = rest-each g.inside h (seeds_at (plan_sheet p) l)
-
-    left_in : (q : Label) → q ∈ (seeds_at (plan_sheet p) l (lowest-of left) ++ each (seeds_at (plan_sheet p) l) (members 32 (rest_of left))) → q ∈ recorded used recs
-    left_in q i = g.asked q (subst (λ (qs : List Label). q ∈ qs) (sym left-seeds) i)
-
-    -- the seed that the lowest line asks for is recorded
-    pub seed-in : (q : Label) → q ∈ seeds_at (plan_sheet p) l (lowest-of left) → q ∈ recorded used recs'
-    seed-in q i = still-in g.loop q (left_in q (Memᴰ.append_left (each (seeds_at (plan_sheet p) l) (members 32 (rest_of left))) i))
-
-    pub seeds-on : {front' : ℕ} {recs₂ marks₂ : List ℕ} → Brought used recs' marks' (include_all (recorded front recs') (seeds_at (plan_sheet p) l (lowest-of left))) front' recs₂ marks₂
-        → BringingSeeds p l used start recs marks front' recs₂ marks₂ (rest_of left)
-    seeds-on b =
-        let C = recorded front recs' in
-        let first-ones = seeds_at (plan_sheet p) l (lowest-of left) in
-        let others = each (seeds_at (plan_sheet p) l) (members 32 (rest_of left)) in record {
-          inside = rest-inside g.inside h;
-          asked = λ q i. left_in q (Memᴰ.append_right first-ones i);
-          loop = bringing-on g.loop (lines_onward p l (rest_of left)) b (sym (include_all-append C first-ones others) ∙ ap (include_all C) (sym left-seeds));
-        }
 
 abbrev pub joint_onward : Sheet → theory.Joint → ℕ → List Label → List Label
 joint_onward s J a C = include_all C (each (seeds s) (drop a J))
@@ -326,25 +314,20 @@ first_cong p q (x ∷ l) h =
     (λ (e : q x ≡ false). rw (h x here ∙ e, e, first) rest)
     (cases (q x))
 
-abbrev pub label_picked : Picked → Label
-label_picked none = blank
-label_picked (picked k) = k
-
-label-picked : (o : Maybe Label) → label_picked (picked_of o) ≡ or_blank o
-label-picked nothing = refl
-label-picked (just k) = refl
+or-blank : (o : Maybe Label) → unwrap_or o blank ≡ or_blank o
+or-blank nothing = refl
+or-blank (just k) = refl
 
 module _ (s : Sheet) (used : ℕ) (recs marks : List ℕ) (sound : Sound s used recs marks) (l : Label) (l-in : l ∈ recorded used recs) where
   closed-seeds : (k : Label) → k ∈ expansions s l → SeedsIn s k (recorded used recs)
   closed-seeds k k-in q i = let (a, a_in, e) = Memᴰ.of_map (λ (a : Ask). a.seed) (asks s k) i in Memᴰ.cast (sym e) (sound.closed l l-in k k-in a a_in)
 
   -- what is found by the marks is what is chosen
-  pub picked-chosen : (r : Picked) → r ≡ picked_of (first (served s (standing used recs marks)) (expansions s l)) → label_picked r ≡ chosen s l
+  pub picked-chosen : unwrap_or (first (served s (standing used recs marks)) (expansions s l)) blank ≡ chosen s l
   unfolding chosen
-  picked-chosen r e =
+  picked-chosen =
       let A = standing used recs marks in
-      ap label_picked e
-      ∙ label-picked (first (served s A) (expansions s l))
+      or-blank (first (served s A) (expansions s l))
       ∙ ap or_blank (first_cong (served s A) (fine s) (expansions s l) (λ k k-in.
       stand-fine s used recs marks sound.lent.enough sound.right k (closed-seeds k k-in)))
 
@@ -394,11 +377,11 @@ module _ (s : Sheet) (used : ℕ) (recs marks : List ℕ) (sound : Sound s used 
         rw (fuel, lt-ltb i (length (recorded front recs)) (omega (arith, size)), reach, recorded-at front recs i h, add-one i)
 
 -- ---- the label of an element
-module _ (j : Labels) (fit : length (joint_of j) ≡ j.count) (B : List Label) (ch : Label → Label) (x : ℕ) where
-  pub label-individual : x < j.count → get_or j.labels x blank ≡ label_at (joint_of j) B ch x
+module _ (J : theory.Joint) (B : List Label) (ch : Label → Label) (x : ℕ) where
+  pub label-individual : x < length J → label J x ≡ label_at J B ch x
   unfolding label_at
-  label-individual h = rw (lt-ltb x (length (joint_of j)) (omega arith)) (joint-at j x h)
+  label-individual h = rw (lt-ltb x (length J) h)
 
-  pub label-seed : j.count ≤ x → ch (label B (x - j.count)) ≡ label_at (joint_of j) B ch x
+  pub label-seed : (n : ℕ) → n ≡ length J → n ≤ x → ch (label B (x - n)) ≡ label_at J B ch x
   unfolding label_at
-  label-seed h = rw (le-ltb x (length (joint_of j)) (omega arith), fit)
+  label-seed n e h = rw (e, le-ltb x (length J) (omega arith))

@@ -1,14 +1,15 @@
 -- Records and marks that are right, by themselves: what the model's writer starts from. Definitions only.
-use Rattle.std.specs.Prelude.{ℕ, ◌<◌, true, ◌≡◌, ◌↔◌, List, length, get_or, set}
+use Rattle.std.specs.Prelude.{ℕ, ◌<◌, true, ◌≡◌, ◌↔◌, List, length, get_or}
 use Rattle.alc.specs.Lists.{◌∈◌}
 use Rattle.alc.specs.Sheet.{Sheet}
 use Rattle.alc.specs.declared.Label.{Label}
 use Rattle.alc.specs.Settle.{Joint}
-use Rattle.alc.specs.Seeds.{Ask, asks, expansions, seed_survives}
+use Rattle.alc.specs.declared.Ask.{Ask}
+use Rattle.alc.specs.Seeds.{asks, expansions, seed_survives}
 use Rattle.alc.specs.Model.{chosen}
 use Rattle.tableau.specs.Records.{label_of, recorded}
-use Rattle.tableau.specs.Walks.{standing}
-use Rattle.engine.specs.Ledger.{Known, Lent}
+use Rattle.tableau.specs.Walks.{Lent, standing}
+use Rattle.engine.specs.Ledger.{Known}
 use Rattle.edges.specs.Keys.{SeedsIn}
 
 -- the records are closed, each once, and those that stand are the satisfiable ones
@@ -21,10 +22,6 @@ pub record Sound (s : Sheet) (used : ℕ) (recs marks : List ℕ) : Type 0 where
 -- all seeds of a joint label are recorded
 abbrev pub AllSeedsIn : Sheet → Joint → List Label → Type 0
 AllSeedsIn s J C = (k : Label) → k ∈ J → SeedsIn s k C
-
--- places i and j of a buffer exchanged
-abbrev pub exchanged : List ℕ → ℕ → ℕ → List ℕ
-exchanged b i j = set (set b i (get_or b j 0)) j (get_or b i 0)
 
 -- the same records with the same marks, in another order
 pub record Shuffled (used : ℕ) (recs marks recs' marks' : List ℕ) : Type 0 where

@@ -1,4 +1,4 @@
-pub mod Laid
-pub mod Masks
 pub mod Lines
 pub mod Walking
+pub mod Told
+pub mod Masks

@@ -1,157 +1,175 @@
--- What a plan says of its sheet, by the numbers that stand in it; sets of lines within others. Assumes nothing.
-use Prim.Native.Nat.{ℕ, zero, suc, ◌+◌, ◌/◌, ◌%◌, ◌^◌, ◌≤◌, ◌<◌}
-use mathlib.Core.Bool.{Bool, true, false, ◌&&◌, ◌||◌, true≢false}
-use mathlib.Core.Path.{◌≡◌, refl, sym, ◌∙◌, ap}
-use mathlib.Core.Logic.{⊎_elim}
-use mathlib.Core.List.{List, [], ◌∷◌, map, map-map}
-use native.Mathlib.Nat.{zero-add}
-use native.Mathlib.Decide.{dec_lt}
-use native.Mathlib.Omega.{arith}
-use lib.ListN.{length, get_or, length-map}
-use lib.Dec.{eqb, ltb}
-use lib.Bits.{bit_or}
-use borrow.Author.Tests.{ltb-true, eqb-true, eq-eqb, ne_eqb, lt-ltb, le-ltb}
-use Rattle.alc.specs.Bits.{bit, put}
-use Rattle.alc.specs.Lists.{◌∈◌, all, up_to}
-use Rattle.alc.specs.Sheet.{Line, top, bottom, name, not, and, or, some, only, Rule, ◌⊑◌, count, line, operands_below, in_limits, most_lines, most_rules}
-use Rattle.alc.specs.Label.{every, when_holds, when_fails, is_top, is_bottom}
-use Rattle.alc.specs.Seeds.{is_quantified}
-use Rattle.alc.proofs.Theorems.Bits.{bit-put, bit-put-other, bit-or, bit-ext}
-use Rattle.alc.proofs.Theorems.Lists.{tests_same, and_left, and_right, and_both, and-false-left, and-false-right, or_right, length_from, map-from, get_or-in, same?}
+-- What a form says of its sheet, entry by entry; what the limits and well-formedness give; sets of lines within others.
+use Rattle.std.specs.Prelude.{ℕ, suc, ◌/◌, ◌%◌, ◌^◌, ◌≤◌, ◌<◌, Bool, true, false, ◌&&◌, ◌||◌, ◌≡◌, refl, List, [], map, length, get_or, eqb, ltb}
+use Rattle.std.proofs.Common.{true≢false, sym, ◌∙◌, ap, arith, eqb-true, eq-eqb, ne_eqb, zero-add}
+use Rattle.std.proofs.lemmas.Bool.{ltb-true, lt-ltb}
+use Rattle.std.proofs.lemmas.List.{length-map}
+use Rattle.std.proofs.lemmas.Simd.{map-map}
+use Rattle.std.specs.Int.Bits.{bit_or}
+use Rattle.alc.specs.Bits.{bit}
+use Rattle.alc.specs.Lists.{up_to}
+use Rattle.alc.specs.declared.Line.{Line}
+use Rattle.alc.specs.declared.Line.TheVariants.{Top as top, Bottom as bottom, Name as name, Not as negation, And as and, Or as or, Some as some, Only as only}
+use Rattle.alc.specs.Sheet.{Sheet, count, line, rule, class_assertion, role_assertion}
+use Rattle.alc.specs.Sheet.{◌⊑◌, operands_below, well_formed, in_limits, most_lines, most_rules, most_individuals, most_classes, most_roles}
+use Rattle.alc.specs.Label.{every, when_holds, when_fails}
+use Rattle.alc.proofs.Theorems.Bits.{bit-or, bit-ext}
+use Rattle.alc.proofs.Theorems.Lists.{and_left, and_right, and_both, or_right, length_from, map-from, get_or-in}
 use Rattle.alc.proofs.Theorems.Sheet.{well-formed}
-use Rattle.sheet.specs.Form.{line_from, line_of, rule_of}
-use Rattle.plan.specs.Plan.{entry_from, plan_sheet, is_working, operand_set, Prepared}
-
--- ---- kinds
--- what a line is tested for is a test of its kind
-pub by_kind : (k a b : ℕ) →
-    (is_top (line_from k a b) ≡ eqb k 0) × (is_bottom (line_from k a b) ≡ eqb k 1) × (is_working (line_from k a b) ≡ (ltb 2 k && ltb k 6)) × (is_quantified (line_from k a b) ≡ ltb 5 k)
-by_kind zero a b = (refl, refl, refl, refl)
-by_kind (suc zero) a b = (refl, refl, refl, refl)
-by_kind (suc (suc zero)) a b = (refl, refl, refl, refl)
-by_kind (suc (suc (suc zero))) a b = (refl, refl, refl, refl)
-by_kind (suc (suc (suc (suc zero)))) a b = (refl, refl, refl, refl)
-by_kind (suc (suc (suc (suc (suc zero))))) a b = (refl, refl, refl, refl)
-by_kind (suc (suc (suc (suc (suc (suc zero)))))) a b = (refl, refl, refl, refl)
-by_kind (suc (suc (suc (suc (suc (suc (suc k))))))) a b =
-    let n = suc (suc (suc (suc (suc (suc (suc k)))))) in
-    (sym (ne_eqb n 0 (omega arith)), sym (ne_eqb n 1 (omega arith)), sym (and-false-right (ltb 2 n) (ltb n 6) (le-ltb n 6 (omega arith))), sym (lt-ltb 5 n (omega arith)))
+use Rattle.sheet.specs.declared.Section.{Section}
+use Rattle.sheet.specs.declared.Sheet.{Sheet as Form}
+use Rattle.sheet.specs.declared.Entry.{Entry as Triple}
+use Rattle.sheet.specs.Form.{entry_of, triples, line_of, rule_of, class_of, role_of, sheet_of}
+use Rattle.plan.specs.declared.Plan.{Plan}
+use Rattle.plan.specs.Prepared.{is_working}
+use Rattle.plan.specs.Plan.{plan_sheet}
 
 -- only not, and and or lines demand anything of the label
 pub no-demand : (c : Line) → is_working c ≡ false → (when_holds c ≡ every []) × (when_fails c ≡ every [])
 no-demand top e = (refl, refl)
 no-demand bottom e = (refl, refl)
 no-demand (name a) e = (refl, refl)
-no-demand (not i) e = absurd (true≢false e)
+no-demand (negation i) e = absurd (true≢false e)
 no-demand (and i j) e = absurd (true≢false e)
 no-demand (or i j) e = absurd (true≢false e)
 no-demand (some r i) e = (refl, refl)
 no-demand (only r i) e = (refl, refl)
 
-first_below : (n k a b : ℕ) → 3 ≤ k → k ≤ 5 → operands_below n (line_from k a b) ≡ true → a < n
-first_below n zero a b p q e = absurd (omega arith)
-first_below n (suc zero) a b p q e = absurd (omega arith)
-first_below n (suc (suc zero)) a b p q e = absurd (omega arith)
-first_below n (suc (suc (suc zero))) a b p q e = ltb-true a n e
-first_below n (suc (suc (suc (suc zero)))) a b p q e = ltb-true a n (and_left (ltb a n) (ltb b n) e)
-first_below n (suc (suc (suc (suc (suc zero))))) a b p q e = ltb-true a n (and_left (ltb a n) (ltb b n) e)
-first_below n (suc (suc (suc (suc (suc (suc k)))))) a b p q e = absurd (omega arith)
+-- ---- the sections of a form
+module _ {A : Type 0} (f : Triple → A) (s : Section) where
+  length-section : length (map f (triples s)) ≡ s.count
+  unfolding triples
+  length-section = length-map (triples s) f ∙ length-map (up_to s.count) (entry_of s) ∙ length_from 0 s.count
 
-second_below : (n k a b : ℕ) → 4 ≤ k → operands_below n (line_from k a b) ≡ true → b < n
-second_below n zero a b p e = absurd (omega arith)
-second_below n (suc zero) a b p e = absurd (omega arith)
-second_below n (suc (suc zero)) a b p e = absurd (omega arith)
-second_below n (suc (suc (suc zero))) a b p e = absurd (omega arith)
-second_below n (suc (suc (suc (suc zero)))) a b p e = ltb-true b n (and_right (ltb a n) (ltb b n) e)
-second_below n (suc (suc (suc (suc (suc zero))))) a b p e = ltb-true b n (and_right (ltb a n) (ltb b n) e)
-second_below n (suc (suc (suc (suc (suc (suc zero)))))) a b p e = ltb-true b n e
-second_below n (suc (suc (suc (suc (suc (suc (suc k))))))) a b p e = ltb-true b n e
+  entry-is : (d : A) (i : ℕ) → i < s.count → get_or (map f (triples s)) i d ≡ f (entry_of s i)
+  unfolding triples
+  entry-is d i b =
+      ap (λ (l : List A). get_or l i d) (map-map f (entry_of s) (up_to s.count))
+      ∙ map-from (λ j. f (entry_of s j)) d 0 s.count i b ∙ ap (λ (j : ℕ). f (entry_of s j)) (zero-add i)
 
--- ---- the numbers of a plan
--- the numbers of line i make it; so do those of rule r
-abbrev pub line_at : List ℕ → ℕ → Line
-line_at p i = line_from (get_or p i 0) (get_or p (32 + i) 0) (get_or p (64 + i) 0)
+module _ (f : Form) where
+  pub line-count : count (sheet_of f) ≡ f.lines.count
+  unfolding sheet_of
+  line-count = length-section line_of f.lines
 
-abbrev pub rule_at : List ℕ → ℕ → Rule
-rule_at p r = get_or p (96 + r) 0 ⊑ get_or p (128 + r) 0
+  pub rule-count : length (sheet_of f).rules ≡ f.rules.count
+  unfolding sheet_of
+  rule-count = length-section rule_of f.rules
 
-module _ (p : List ℕ) where
-  pub lines_are : (plan_sheet p).lines ≡ map (line_at p) (up_to (get_or p 384 0))
-  unfolding plan_sheet
-  lines_are = map-map line_of (entry_from p 0) (up_to (get_or p 384 0)) ∙ simp zero-add
+  pub individual-count : (sheet_of f).individuals ≡ f.individuals
+  unfolding sheet_of
+  individual-count = refl
 
-  pub rules-are : (plan_sheet p).rules ≡ map (rule_at p) (up_to (get_or p 385 0))
-  unfolding plan_sheet
-  rules-are = map-map rule_of (entry_from p 96) (up_to (get_or p 385 0))
+  pub class-count : length (sheet_of f).classes ≡ f.classes.count
+  unfolding sheet_of
+  class-count = length-section class_of f.classes
 
-  pub line-count : count (plan_sheet p) ≡ get_or p 384 0
-  line-count = rw lines_are (length-map (up_to (get_or p 384 0)) (line_at p) ∙ length_from 0 (get_or p 384 0))
+  pub role-count : length (sheet_of f).roles ≡ f.roles.count
+  unfolding sheet_of
+  role-count = length-section role_of f.roles
 
-  pub rule-count : length (plan_sheet p).rules ≡ get_or p 385 0
-  rule-count = rw rules-are (length-map (up_to (get_or p 385 0)) (rule_at p) ∙ length_from 0 (get_or p 385 0))
+  pub line-is : (i : ℕ) → i < count (sheet_of f) → line (sheet_of f) i ≡ line_of (entry_of f.lines i)
+  unfolding sheet_of
+  line-is i b = entry-is line_of f.lines top i (omega (arith, line-count))
 
-  pub line-is : (i : ℕ) → i < count (plan_sheet p) → line (plan_sheet p) i ≡ line_at p i
-  line-is i b = rw lines_are (map-from (line_at p) top 0 (get_or p 384 0) i (omega (arith, line-count)) ∙ simp zero-add)
+  pub rule-is : (i : ℕ) → i < length (sheet_of f).rules → rule (sheet_of f) i ≡ rule_of (entry_of f.rules i)
+  unfolding sheet_of
+  rule-is i b = entry-is rule_of f.rules (0 ⊑ 0) i (omega (arith, rule-count))
 
-  -- a line by its kind: `line_from 3 a b` is `not a`, and so on
-  pub line-of-kind : (i k : ℕ) → i < count (plan_sheet p) → get_or p i 0 ≡ k → line (plan_sheet p) i ≡ line_from k (get_or p (32 + i) 0) (get_or p (64 + i) 0)
-  line-of-kind i k b e = line-is i b ∙ ap (λ (n : ℕ). line_from n (get_or p (32 + i) 0) (get_or p (64 + i) 0)) e
+  pub class-is : (i : ℕ) → i < length (sheet_of f).classes → class_assertion (sheet_of f) i ≡ class_of (entry_of f.classes i)
+  unfolding sheet_of
+  class-is i b = entry-is class_of f.classes (record { individual = 0; class = 0 }) i (omega (arith, class-count))
 
-  pub rule-is : (r : ℕ) (d : Rule) → r < get_or p 385 0 → get_or (plan_sheet p).rules r d ≡ rule_at p r
-  rule-is r d b = rw rules-are (map-from (rule_at p) d 0 (get_or p 385 0) r b ∙ simp zero-add)
+  pub role-is : (i : ℕ) → i < length (sheet_of f).roles → role_assertion (sheet_of f) i ≡ role_of (entry_of f.roles i)
+  unfolding sheet_of
+  role-is i b = entry-is role_of f.roles (record { role = 0; source = 0; target = 0 }) i (omega (arith, role-count))
 
-module _ {p : List ℕ} (h : Prepared p) where
-  -- the limits
+-- ---- the limits
+pub record Few (s : Sheet) : Type 0 where
+  pub lines : count s ≤ 32
+  pub rules : length s.rules ≤ 12
+  pub individuals : s.individuals ≤ 8
+  pub classes : length s.classes ≤ 16
+  pub roles : length s.roles ≤ 16
+
+pub few : {s : Sheet} → in_limits s ≡ true → Few s
+unfolding in_limits
+few {s} l =
+    let a : ltb (count s) (suc most_lines) ≡ true = search (and_left, and_right) in
+    let b : ltb (length s.rules) (suc most_rules) ≡ true = search (and_left, and_right) in
+    let c : ltb s.individuals (suc most_individuals) ≡ true = search (and_left, and_right) in
+    let d : ltb (length s.classes) (suc most_classes) ≡ true = search (and_left, and_right) in
+    let e : ltb (length s.roles) (suc most_roles) ≡ true = search (and_left, and_right) in
+    record {
+      lines = omega (arith, ltb-true _ _ a);
+      rules = omega (arith, ltb-true _ _ b);
+      individuals = omega (arith, ltb-true _ _ c);
+      classes = omega (arith, ltb-true _ _ d);
+      roles = omega (arith, ltb-true _ _ e);
+    }
+
+-- those of a plan's sheet
+module _ (p : Plan) where
   pub lines_fit : count (plan_sheet p) ≤ 32
-  unfolding in_limits
-  lines_fit =
-      let s = plan_sheet p in
-      let l : in_limits s ≡ true = h.limited in
-      let a : ltb (count s) (suc most_lines) ≡ true = search (and_left, and_right) in
-      omega (arith, ltb-true (count s) (suc most_lines) a)
+  lines_fit = (few p.prepared.limited).lines
 
-  pub rules-fit : get_or p 385 0 ≤ 12
-  unfolding in_limits
-  rules-fit =
-      let s = plan_sheet p in
-      let l : in_limits s ≡ true = h.limited in
-      let a : ltb (length s.rules) (suc most_rules) ≡ true = search (and_left, and_right) in
-      omega (arith, ltb-true (length s.rules) (suc most_rules) a, rule-count p)
+  pub rules-fit : length (plan_sheet p).rules ≤ 12
+  rules-fit = (few p.prepared.limited).rules
 
+  pub individuals-fit : (plan_sheet p).individuals ≤ 8
+  individuals-fit = (few p.prepared.limited).individuals
+
+  pub classes-fit : length (plan_sheet p).classes ≤ 16
+  classes-fit = (few p.prepared.limited).classes
+
+  pub roles-fit : length (plan_sheet p).roles ≤ 16
+  roles-fit = (few p.prepared.limited).roles
+
+ltb-further : (m n : ℕ) → m ≤ n → (i : ℕ) → ltb i m ≡ true → ltb i n ≡ true
+ltb-further m n b i e = lt-ltb i n (omega (arith, ltb-true i m e))
+
+-- operands that are smaller than one number are smaller than a larger one
+pub operands-further : (m n : ℕ) → m ≤ n → (c : Line) → operands_below m c ≡ true → operands_below n c ≡ true
+operands-further m n b top e = refl
+operands-further m n b bottom e = refl
+operands-further m n b (name a) e = refl
+operands-further m n b (negation i) e = ltb-further m n b i e
+operands-further m n b (and i j) e = and_both (ltb i n) (ltb j n) (ltb-further m n b i (and_left (ltb i m) (ltb j m) e)) (ltb-further m n b j (and_right (ltb i m) (ltb j m) e))
+operands-further m n b (or i j) e = and_both (ltb i n) (ltb j n) (ltb-further m n b i (and_left (ltb i m) (ltb j m) e)) (ltb-further m n b j (and_right (ltb i m) (ltb j m) e))
+operands-further m n b (some r i) e = ltb-further m n b i e
+operands-further m n b (only r i) e = ltb-further m n b i e
+
+-- ---- what a well-formed sheet names is there
+module _ (s : Sheet) (w : well_formed s ≡ true) where
   -- both sides of a rule are lines
-  pub rule-inside : (r : ℕ) → r < get_or p 385 0 → (get_or p (96 + r) 0 < 32) × (get_or p (128 + r) 0 < 32)
-  rule-inside r b =
-      let m : rule_at p r ∈ (plan_sheet p).rules = rw (← rule-is p r (0 ⊑ 0) b) (get_or-in (plan_sheet p).rules r (0 ⊑ 0) (omega (arith, rule-count p))) in
-      let (c, d) = (well-formed (plan_sheet p) h.well).rules (rule_at p r) m in
-      (omega (arith, lines_fit), omega (arith, lines_fit))
+  pub rule-inside : (r : ℕ) → r < length s.rules → ((rule s r).sub < count s) × ((rule s r).sup < count s)
+  rule-inside r b = (well-formed s w).rules (rule s r) (get_or-in s.rules r (0 ⊑ 0) b)
 
-  module _ (i : ℕ) (b : i < count (plan_sheet p)) where
-    pub line-inside : i < 32
-    line-inside = omega (arith, lines_fit)
+  pub class-inside : (c : ℕ) → c < length s.classes → ((class_assertion s c).individual < s.individuals) × ((class_assertion s c).class < count s)
+  class-inside c b = (well-formed s w).classes (class_assertion s c) (get_or-in s.classes c _ b)
 
-    operands-smaller : operands_below i (line_at p i) ≡ true
-    operands-smaller = rw (← line-is p i b) ((well-formed (plan_sheet p) h.well).operands i b)
+  pub role-inside : (e : ℕ) → e < length s.roles → ((role_assertion s e).source < s.individuals) × ((role_assertion s e).target < s.individuals)
+  role-inside e b = (well-formed s w).roles (role_assertion s e) (get_or-in s.roles e _ b)
 
-    -- operands are lines: the first number of not, and and or lines, the second of and, or, some and only lines
-    pub first-operand : 3 ≤ get_or p i 0 → get_or p i 0 ≤ 5 → get_or p (32 + i) 0 < 32
-    first-operand b₁ b₂ = omega (arith, line-inside, first_below i (get_or p i 0) (get_or p (32 + i) 0) (get_or p (64 + i) 0) b₁ b₂ operands-smaller)
+  -- operands are lines before their own
+  module _ (i : ℕ) (b : i < count s) where
+    pub operands-smaller : operands_below i (line s i) ≡ true
+    operands-smaller = (well-formed s w).operands i b
 
-    pub second-operand : 4 ≤ get_or p i 0 → get_or p (64 + i) 0 < 32
-    second-operand b₁ = omega (arith, line-inside, second_below i (get_or p i 0) (get_or p (32 + i) 0) (get_or p (64 + i) 0) b₁ operands-smaller)
+    pub and-inside : {a d : ℕ} → line s i ≡ and a d → (a < i) × (d < i)
+    and-inside {a} {d} e =
+        let h : (ltb a i && ltb d i) ≡ true = ap (operands_below i) (sym e) ∙ operands-smaller in
+        (ltb-true a i (and_left _ _ h), ltb-true d i (and_right _ _ h))
 
-    -- the operands as a set, by the kind
-    pub operand-set : (k : ℕ) → get_or p i 0 ≡ k → get_or p (392 + i) 0 ≡ operand_set (line_from k (get_or p (32 + i) 0) (get_or p (64 + i) 0))
-    operand-set k e = h.operands i b ∙ ap operand_set (line-of-kind p i k b e)
+    pub or-inside : {a d : ℕ} → line s i ≡ or a d → (a < i) × (d < i)
+    or-inside {a} {d} e =
+        let h : (ltb a i && ltb d i) ≡ true = ap (operands_below i) (sym e) ∙ operands-smaller in
+        (ltb-true a i (and_left _ _ h), ltb-true d i (and_right _ _ h))
 
-    -- a line of none of these kinds demands nothing
-    pub idle : (get_or p i 0 ≡ 3 → ⊥) → (get_or p i 0 ≡ 4 → ⊥) → (get_or p i 0 ≡ 5 → ⊥) → is_working (line (plan_sheet p) i) ≡ false
-    idle no-not no-and no_or =
-        let k = get_or p i 0 in
-        ap is_working (line-is p i b) ∙ (by_kind k (get_or p (32 + i) 0) (get_or p (64 + i) 0)).2
-        ∙ elim (dec_lt 2 k) [
-          | yes q ↦ and-false-right (ltb 2 k) (ltb k 6) (le-ltb k 6 (omega arith))
-          | no q ↦ and-false-left (ltb 2 k) (ltb k 6) (le-ltb 2 k (omega arith))
-        ]
+    pub some-inside : {r a : ℕ} → line s i ≡ some r a → a < i
+    some-inside {a = a} e = ltb-true a i (ap (operands_below i) (sym e) ∙ operands-smaller)
+
+    pub only-inside : {r a : ℕ} → line s i ≡ only r a → a < i
+    only-inside {a = a} e = ltb-true a i (ap (operands_below i) (sym e) ∙ operands-smaller)
 
 -- ---- sets
 -- the machine's test of a member
@@ -175,31 +193,6 @@ or-absorbed false false k = refl
 pub absorbs : (h s : ℕ) → ((j : ℕ) → bit s j ≡ true → bit h j ≡ true) → eqb (bit_or h s) h ≡ true
 absorbs h s k = eq-eqb (bit_or h s) h (bit-ext (bit_or h s) h (λ j. bit-or h s j ∙ or-absorbed (bit h j) (bit s j) (k j)))
 
-absorbs-put : (h s i : ℕ) → eqb (bit_or h (put s i)) h ≡ (eqb (bit_or h s) h && bit h i)
-absorbs-put h s i =
-    tests_same (eqb (bit_or h (put s i)) h) (eqb (bit_or h s) h && bit h i)
-    (λ e. and_both (eqb (bit_or h s) h) (bit h i)
-    (absorbs h s (λ j m. within h (put s i) e j (⊎_elim (λ (q : i ≡ j). rw q (bit-put s j)) (λ q. bit-put-other s i j q ∙ m) (same? i j))))
-    (within h (put s i) e i (bit-put s i)))
-    (λ e. absorbs h (put s i) (λ j m. ⊎_elim
-    (λ (q : i ≡ j). rw (← q) (and_right (eqb (bit_or h s) h) (bit h i) e))
-    (λ q. within h s (and_left (eqb (bit_or h s) h) (bit h i) e) j (sym (bit-put-other s i j q) ∙ m))
-    (same? i j)))
-
--- s with all of a list in it
-abbrev pub put_all : ℕ → List ℕ → ℕ
-put_all s [] = s
-put_all s (i ∷ is) = put_all (put s i) is
-
 pub and-true : (a : Bool) → (a && true) ≡ a
 and-true true = refl
 and-true false = refl
-
-and_assoc : (a b c : Bool) → ((a && b) && c) ≡ (a && (b && c))
-and_assoc true b c = refl
-and_assoc false b c = refl
-
-pub absorbs-all : (h : ℕ) (is : List ℕ) (s : ℕ) → eqb (bit_or h (put_all s is)) h ≡ (eqb (bit_or h s) h && all (bit h) is)
-absorbs-all h [] s = sym (and-true (eqb (bit_or h s) h))
-absorbs-all h (i ∷ is) s =
-    absorbs-all h is (put s i) ∙ ap (λ (b : Bool). b && all (bit h) is) (absorbs-put h s i) ∙ and_assoc (eqb (bit_or h s) h) (bit h i) (all (bit h) is)

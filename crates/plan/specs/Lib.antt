@@ -1,2 +1,3 @@
+-- Prepared: what is looked up of a sheet. Plan: the sheet of a plan.
+pub mod Prepared
 pub mod Plan
-pub mod Laid

@@ -1,263 +1,247 @@
-// A plan: a sheet laid out flat, so that the search lends one array, with what every step looks up prepared once.
-// What is right stands in alc's specs; specs/Plan.antt says what a plan means, specs/Laid.antt what each step of making one does.
+// A plan: an accepted sheet, and beside it what every step looks up, prepared once.
+// What is right stands in alc's specs; specs/Prepared.antt says what is prepared, specs/Plan.antt which sheet a plan stands for.
 #![tactic(auto)]
 
-ghost use Rattle.std.specs.Prelude.{◌≡◌, true, ◌&&◌, ℕ, ◌<◌, ◌≤◌, get_or, eqb, ltb};
+ghost use Rattle.std.specs.Prelude.{ℕ, ◌≡◌, ◌<◌, ◌≤◌, true, false, get_or};
 ghost use Rattle.alc.specs.Bits.{bit, put};
-ghost use Rattle.alc.specs.Sheet.{line, operands_below, well_formed, in_limits};
+ghost use Rattle.alc.specs.Sheet.{line, count, well_formed, in_limits, operands_below};
 ghost use Rattle.alc.specs.Label.{same_name};
-ghost use Rattle.sheet.specs.Form.{line_from, sheet_of};
-ghost use Rattle.plan.specs.Plan.{plan_sheet, operand_set, Prepared};
-ghost use Rattle.plan.specs.Laid.{put_if, RowLaid, SectionLaid, AllStand, Unmarked, Pending, LineDone, Grouped, shares_at, MasksLaid};
+ghost use Rattle.alc.specs.Masks.{MasksOf};
+ghost use Rattle.sheet.specs.Form.{entry_of, line_of, sheet_of};
+ghost use Rattle.std.proofs.Props.{props};
+ghost use Rattle.plan.specs.Prepared.{operand_set, IsGroup, Prepared};
 
+use alc::walk::Members;
+use alc::{ClassAssertion, Label, Line, Masks, RoleAssertion, Rule};
 use sheet::{Section, Sheet};
 
-pub const SIZE: usize = 460;
-// Each section is three rows of 32: lines first, then rules, class assertions and role assertions.
-pub const ROW: usize = 32;
-
-pub const RULES: usize = 96;
-
-pub const CLASSES: usize = 192;
-
-pub const ROLES: usize = 288;
-// The counts.
-pub const LINE_COUNT: usize = 384;
-
-pub const RULE_COUNT: usize = 385;
-
-pub const INDIVIDUAL_COUNT: usize = 386;
-
-pub const CLASS_COUNT: usize = 387;
-
-pub const ROLE_COUNT: usize = 388;
-// The set of not, and and or lines; the set of some and only lines.
-pub const WORKING: usize = 389;
-
-pub const ASKING: usize = 390;
-// For each line its operands as a set.
-pub const OPERANDS: usize = 392;
-// The masks, in alc's order.
-pub const MASKS: usize = 424;
-
-const LINES: usize = 424;
-
-const BOTTOMS: usize = 425;
-
-const TOPS: usize = 426;
-
-const SHARED: usize = 427;
-
-const GROUPS: usize = 428;
-
-// The kinds of lines.
-pub const TOP: u32 = 0;
-
-pub const BOTTOM: u32 = 1;
-
-pub const NAME: u32 = 2;
-
-pub const NOT: u32 = 3;
-
-pub const AND: u32 = 4;
-
-pub const OR: u32 = 5;
-
-pub const SOME: u32 = 6;
-
-// One row of a section.
-fn lay_row(mut plan: [u32; SIZE], base: usize, row: [u16; ROW]) -> [u32; SIZE]
-    requires { base ≤ 352 }
-    ensures { RowLaid 32 base row plan result }
-{
-    let mut i = 0;
-    while i < ROW {
-        plan[base + i] = row[i] as u32;
-        i += 1;
-    }
-    plan
+// The sheet; the set of not, and and or lines; the set of some and only lines; for each line its operands as a set; the masks.
+// The words that are prepared stand beside the form, and not in its lines: those stay as they were read.
+#[derive(Clone, Copy)]
+pub struct Plan {
+    pub sheet: Sheet,
+    pub working_set: u32,
+    pub asking_set: u32,
+    pub operand_sets: [u32; 32],
+    pub masks: Masks,
+    pub ghost prepared: { Prepared sheet working_set asking_set operand_sets masks } by { Prim.hlevel props },
 }
 
-// One section, its three rows and its count.
-fn lay_section(plan: [u32; SIZE], base: usize, tally: usize, section: Section) -> [u32; SIZE]
-    requires { (base ≤ 288) × (383 < tally) × (tally < 389) }
-    ensures { SectionLaid base tally section plan result }
-{
-    let first = section.first;
-    let second = section.second;
-    let third = section.third;
-    let mut laid = lay_row(plan, base, first);
-    laid = lay_row(laid, base + ROW, second);
-    laid = lay_row(laid, base + 2 * ROW, third);
-    laid[tally] = section.count as u32;
-    laid
-}
-
-// The sheet, with nothing prepared.
-fn lay_out(sheet: Sheet) -> [u32; SIZE]
-    ensures { AllStand sheet result × ((i : ℕ) → Unmarked result i) }
-{
-    let mut plan = [0u32; SIZE];
-    plan[INDIVIDUAL_COUNT] = sheet.individuals as u32;
-    plan = lay_section(plan, 0, LINE_COUNT, sheet.lines);
-    plan = lay_section(plan, RULES, RULE_COUNT, sheet.rules);
-    plan = lay_section(plan, CLASSES, CLASS_COUNT, sheet.classes);
-    lay_section(plan, ROLES, ROLE_COUNT, sheet.roles)
-}
-
-// The set with i in it.
-fn with_line(set: u32, i: u32) -> u32
+// Line i of a section of lines.
+#[inline]
+fn line_of(lines: &Section, i: usize) -> Line
     requires { i < 32 }
-    ensures { result ≡ put set i }
+    ensures { result ≡ line_of (entry_of lines.now i) }
 {
-    set | (1u32 << i)
-}
-
-// The set with i in it, if that is wanted.
-fn with_if(wanted: bool, set: u32, i: u32) -> u32
-    requires { i < 32 }
-    ensures { result ≡ put_if wanted set i }
-{
-    if wanted {
-        return with_line(set, i);
-    }
-    set
+    Line::from(lines.entries[i])
 }
 
 // The lines that a not, and or or line names.
-fn operand_set(kind: u32, a: u32, b: u32) -> u32
-    requires { operands_below 32 (line_from kind a b) ≡ true }
-    ensures { result ≡ operand_set (line_from kind a b) }
+fn operand_set(line: Line) -> u32
+    requires { operands_below 32 line ≡ true }
+    ensures { result ≡ operand_set line }
 {
-    if kind == NOT {
-        return with_line(0, a);
+    match line {
+        Line::Not(i) => 1u32 << i,
+        Line::And(i, j) | Line::Or(i, j) => (1u32 << i) | (1u32 << j),
+        _ => 0,
     }
-    if kind < AND {
-        return 0;
-    }
-    if OR < kind {
-        return 0;
-    }
-    let first = with_line(0, a);
-    with_line(first, b)
 }
 
 // Are these two lines of the same name?
-fn same_name(kind: u32, first: u32, other: u32, second: u32) -> bool
-    ensures { (b d : ℕ) → result ≡ same_name (line_from kind first b) (line_from other second d) }
+fn same_name(line: Line, other: Line) -> bool
+    ensures { result ≡ same_name line other }
 {
-    if kind == NAME {
-        if other == NAME {
-            return first == second;
+    match (line, other) {
+        (Line::Name(a), Line::Name(b)) => a == b,
+        _ => false,
+    }
+}
+
+// The set of the lines below `count` that pass.
+fn lines_where<F: Fn(usize) -> bool>(count: usize, passes: F) -> u32
+    requires { (count ≤ 32) × ((i : ℕ) → i < count → F.pre passes i) }
+    ensures { (i : ℕ) → (i < count → F.post passes i (bit result i)) × (count ≤ i → bit result i ≡ false) }
+{
+    let mut set = 0u32;
+    for i in 0..count {
+        if passes(i) {
+            set |= 1u32 << i;
         }
     }
-    false
-}
-
-// The group of line i: the lines of its name.
-fn group_of(plan: &[u32; SIZE], i: usize) -> u32
-    requires { (i < get_or plan.now 384 0) × (get_or plan.now 384 0 ≤ 32) }
-    ensures { (j : ℕ) → bit result j ≡ same_name (line (plan_sheet plan.now) i) (line (plan_sheet plan.now) j) }
-{
-    let mut set = 0u32;
-    let mut j = 0;
-    while j < plan[LINE_COUNT] {
-        let at = j as usize;
-        let same = same_name(plan[i], plan[ROW + i], plan[at], plan[ROW + at]);
-        set = with_if(same, set, j);
-        j += 1;
-    }
     set
 }
 
-// What is looked up of line i.
-fn prepare_line(mut plan: [u32; SIZE], i: u32) -> [u32; SIZE]
-    requires { Pending i plan }
-    ensures { LineDone i plan result }
+// For each line its operands.
+fn operand_sets(lines: &Section) -> [u32; 32]
+    requires { (lines.now.count ≤ 32) × ((i : ℕ) → i < lines.now.count → operands_below 32 (line_of (entry_of lines.now i)) ≡ true) }
+    ensures { (i : ℕ) → i < lines.now.count → get_or result i 0 ≡ operand_set (line_of (entry_of lines.now i)) }
 {
-    let at = i as usize;
-    let kind = plan[at];
-    let operands = operand_set(kind, plan[ROW + at], plan[2 * ROW + at]);
-    let group = group_of(&plan, at);
-    let working = with_if(operands != 0, plan[WORKING], i);
-    let asking = with_if(OR < kind, plan[ASKING], i);
-    plan[WORKING] = working;
-    plan[ASKING] = asking;
-    plan[OPERANDS + at] = operands;
-    plan[GROUPS + at] = group;
-    plan
-}
-
-// All lines.
-fn line_set(lines: u32) -> u32
-    requires { lines ≤ 32 }
-    ensures { (j : ℕ) → bit result j ≡ ltb j lines }
-{
-    let mut set = 0u32;
-    let mut j = 0;
-    while j < lines {
-        set = with_line(set, j);
-        j += 1;
+    let mut sets = [0u32; 32];
+    for i in 0..lines.count as usize {
+        sets[i] = operand_set(line_of(lines, i));
     }
-    set
+    sets
 }
 
-// The lines of a kind.
-fn kind_set(plan: &[u32; SIZE], kind: u32) -> u32
-    requires { get_or plan.now 384 0 ≤ 32 }
-    ensures { (j : ℕ) → bit result j ≡ (ltb j (get_or plan.now 384 0) && eqb (get_or plan.now j 0) kind) }
+// For each line its group: the lines of its name.
+fn groups(lines: &Section) -> [u32; 32]
+    requires { lines.now.count ≤ 32 }
+    ensures { (i : ℕ) → i < lines.now.count → IsGroup lines.now i (get_or result i 0) }
 {
-    let mut set = 0u32;
-    let mut j = 0;
-    while j < plan[LINE_COUNT] {
-        set = with_if(plan[j as usize] == kind, set, j);
-        j += 1;
+    let count = lines.count as usize;
+    let mut groups = [0u32; 32];
+    for i in 0..count {
+        let line = line_of(lines, i);
+        groups[i] = lines_where(count, |j| same_name(line, line_of(lines, j)));
     }
-    set
+    groups
 }
 
-// The lines whose group has another line.
-fn shared_set(plan: &[u32; SIZE]) -> u32
-    requires { get_or plan.now 384 0 ≤ 32 }
-    ensures { (j : ℕ) → bit result j ≡ (ltb j (get_or plan.now 384 0) && shares_at plan.now j) }
+// The masks of a sheet.
+fn masks_of(sheet: &Sheet) -> Masks
+    requires { sheet.now.lines.count ≤ 32 }
+    ensures { MasksOf (sheet_of sheet.now) result }
 {
-    let mut set = 0u32;
-    let mut j = 0;
-    while j < plan[LINE_COUNT] {
-        let group = plan[GROUPS + j as usize];
-        let own = with_line(0, j);
-        set = with_if(own | group != own, set, j);
-        j += 1;
+    let lines = &sheet.lines;
+    let count = lines.count as usize;
+    let groups = groups(lines);
+    Masks {
+        lines: lines_where(count, |_| true),
+        bottoms: lines_where(count, |i| matches!(line_of(lines, i), Line::Bottom)),
+        tops: lines_where(count, |i| matches!(line_of(lines, i), Line::Top)),
+        // those whose group has another line
+        shared: lines_where(count, |i| (1u32 << i) | groups[i] != 1u32 << i),
+        groups,
     }
-    set
-}
-
-// The masks, once each line has its group.
-fn prepare_masks(mut plan: [u32; SIZE]) -> [u32; SIZE]
-    requires { Grouped plan }
-    ensures { MasksLaid plan result }
-{
-    let lines = line_set(plan[LINE_COUNT]);
-    let bottoms = kind_set(&plan, BOTTOM);
-    let tops = kind_set(&plan, TOP);
-    let shared = shared_set(&plan);
-    plan[LINES] = lines;
-    plan[BOTTOMS] = bottoms;
-    plan[TOPS] = tops;
-    plan[SHARED] = shared;
-    plan
 }
 
 // The plan of an accepted sheet.
-pub fn prepare(sheet: Sheet) -> [u32; SIZE]
+pub fn prepare(sheet: Sheet) -> Plan
     requires { (well_formed (sheet_of sheet) ≡ true) × (in_limits (sheet_of sheet) ≡ true) }
-    ensures { Prepared result × (plan_sheet result ≡ sheet_of sheet) }
+    ensures { sheet_of result.sheet ≡ sheet_of sheet }
 {
-    let mut plan = lay_out(sheet);
-    let mut i = 0;
-    while i < plan[LINE_COUNT] {
-        plan = prepare_line(plan, i);
-        i += 1;
+    let lines = &sheet.lines;
+    let count = lines.count as usize;
+    let working_set = lines_where(
+        count,
+        |i| matches!(
+            line_of(lines, i),
+            Line::Not(_) | Line::And(_, _) | Line::Or(_, _)
+        ),
+    );
+    let asking_set = lines_where(
+        count,
+        |i| matches!(line_of(lines, i), Line::Some(_, _) | Line::Only(_, _)),
+    );
+    let operand_sets = operand_sets(lines);
+    let masks = masks_of(&sheet);
+    Plan {
+        sheet,
+        working_set,
+        asking_set,
+        operand_sets,
+        masks,
     }
-    prepare_masks(plan)
+}
+
+impl Plan {
+    ghost use Rattle.std.specs.Prelude.{length};
+    ghost use Rattle.alc.specs.Bits.{members};
+    ghost use Rattle.alc.specs.Sheet.{rule, class_assertion, role_assertion};
+    ghost use Rattle.alc.specs.Seeds.{is_quantified};
+    ghost use Rattle.plan.specs.Prepared.{is_working, marked_lines};
+    ghost use Rattle.plan.specs.Plan.{plan_sheet};
+
+    #[inline]
+    pub fn line_count(&self) -> usize
+        ensures { (result ≡ count (plan_sheet self.now)) × (result ≤ 32) }
+    {
+        self.sheet.lines.count as usize
+    }
+
+    #[inline]
+    pub fn line(&self, i: usize) -> Line
+        requires { i < count (plan_sheet self.now) }
+        ensures { result ≡ line (plan_sheet self.now) i }
+    {
+        line_of(&self.sheet.lines, i)
+    }
+
+    // The operands of line i, as a set.
+    #[inline]
+    pub fn operands(&self, i: usize) -> u32
+        requires { i < count (plan_sheet self.now) }
+        ensures { result ≡ operand_set (line (plan_sheet self.now) i) }
+    {
+        self.operand_sets[i]
+    }
+
+    #[inline]
+    pub fn rule_count(&self) -> usize
+        ensures { (result ≡ length (plan_sheet self.now).rules) × (result ≤ 12) }
+    {
+        self.sheet.rules.count as usize
+    }
+
+    #[inline]
+    pub fn rule(&self, r: usize) -> Rule
+        requires { r < length (plan_sheet self.now).rules }
+        ensures { result ≡ rule (plan_sheet self.now) r }
+    {
+        Rule::from(self.sheet.rules.entries[r])
+    }
+
+    #[inline]
+    pub fn individual_count(&self) -> usize
+        ensures { (result ≡ (plan_sheet self.now).individuals) × (result ≤ 8) }
+    {
+        self.sheet.individuals as usize
+    }
+
+    #[inline]
+    pub fn class_count(&self) -> usize
+        ensures { (result ≡ length (plan_sheet self.now).classes) × (result ≤ 16) }
+    {
+        self.sheet.classes.count as usize
+    }
+
+    #[inline]
+    pub fn class_assertion(&self, c: usize) -> ClassAssertion
+        requires { c < length (plan_sheet self.now).classes }
+        ensures { result ≡ class_assertion (plan_sheet self.now) c }
+    {
+        ClassAssertion::from(self.sheet.classes.entries[c])
+    }
+
+    #[inline]
+    pub fn role_count(&self) -> usize
+        ensures { (result ≡ length (plan_sheet self.now).roles) × (result ≤ 16) }
+    {
+        self.sheet.roles.count as usize
+    }
+
+    #[inline]
+    pub fn role_assertion(&self, e: usize) -> RoleAssertion
+        requires { e < length (plan_sheet self.now).roles }
+        ensures { result ≡ role_assertion (plan_sheet self.now) e }
+    {
+        RoleAssertion::from(self.sheet.roles.entries[e])
+    }
+
+    // The lines whose marks in l demand something of it.
+    #[inline]
+    pub fn working(&self, l: Label) -> Members
+        ensures { members 32 result.left ≡ marked_lines is_working (plan_sheet self.now) l }
+    {
+        Members::of((l.holding | l.failing) & self.working_set)
+    }
+
+    // The some and only lines that have a mark in l.
+    #[inline]
+    pub fn asking(&self, l: Label) -> Members
+        ensures { members 32 result.left ≡ marked_lines is_quantified (plan_sheet self.now) l }
+    {
+        Members::of((l.holding | l.failing) & self.asking_set)
+    }
 }

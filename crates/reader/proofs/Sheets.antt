@@ -1,91 +1,47 @@
--- From a section that the code read to the lines, rules or assertions of alc. Assumes nothing.
-use mathlib.Core.Path.{◌≡◌, refl, sym, ap, ◌∙◌}
-use mathlib.Core.List.{List, map}
-use Prim.Native.Nat.{ℕ, suc, ◌≤◌, ◌<◌}
-use native.Mathlib.Omega.{arith}
-use lib.ListN.{length}
-use borrow.Author.Tests.{lt-ltb, le-ltb}
-use Rattle.alc.specs.Sheet.{Line, Rule, ClassAssertion, RoleAssertion, most_lines, most_rules, most_individuals, most_classes, most_roles}
+-- The whole sheet in the reader's own words: sections of forms, one behind the other. Assumes nothing.
+use Rattle.std.specs.Prelude.{◌≡◌, refl, Bool, true, false, List, map, length, ltb, Result, Ok, Err}
+use Rattle.std.proofs.Common.{sym, ap, ap₂, ◌∙◌}
+use Rattle.std.proofs.lemmas.List.{length-map}
+use Prim.Native.Nat.{ℕ}
 use Rattle.alc.specs.Sheet as theory
+use Rattle.alc.specs.Sheet.{most_lines, most_rules, most_classes, most_roles}
 use Rattle.alc.specs.Bytes.{Read, refused, taken, then, below_at, line_at, rule_at, class_at, role_at, counted_at, sections_at, read_sheet}
-use Rattle.sheet.specs.declared.Reason.{Reason}
+use Rattle.alc.proofs.Theorems.Bytes.{accepted-is}
+use Rattle.sheet.specs.declared.Refusal.{Refusal}
+use Rattle.sheet.specs.declared.Sheet.{Sheet}
 use Rattle.sheet.specs.declared.Section.{Section}
-use Rattle.sheet.specs.declared.Readout.{Readout}
-use Rattle.sheet.specs.Form.{reason_number, Triple, section_form, triples, line_of, line_triple, rule_of, rule_triple, class_of, class_triple, role_of, role_triple, sheet_of, form_of, empty_sheet}
-use Rattle.numbers.specs.Reading.{given}
-use Rattle.reader.specs.declared.sections.Stop.{Stop}
-use Rattle.reader.specs.declared.sections.Stop.TheVariants.{Behind, Refused}
-use Rattle.reader.specs.declared.sections.SectionRead.{SectionRead}
-use Rattle.sheet.specs.declared.Kind.TheVariants.{Lines, Rules, Classes, Roles}
-use Rattle.reader.specs.Parts.{stop_read, reading, SectionPromise, Tidy, section_at, refused_sheet, accepted_sheet, facts_at}
-use Rattle.reader.specs.Promise.{ReadsAs}
-use Rattle.reader.specs.Reading.{then-then, counted-map, roles-give}
-use Rattle.reader.proofs.Theorems.{map_back, line-back, sheet-form}
+use Rattle.sheet.specs.declared.Entry.{Entry as Triple}
+use Rattle.sheet.specs.Form.{reason_number, section_form, line_triple, rule_triple, class_triple, role_triple, sheet_of, form_of}
+use Rattle.reader.specs.Parts.{reading, facts_at}
+use Rattle.reader.specs.Promise.{ReadPromise}
+use Rattle.reader.proofs.Reading.{then-then, counted-map}
+use Rattle.reader.proofs.Theorems.{read_kept, sheet-form}
 
-module _ {A B : Type 0} (f : A → B) where
-  reading-taken : (r : Read A) {b : B} {p : ℕ} → reading f r ≡ taken b p → (a : A) × (r ≡ taken a p) × (f a ≡ b)
-  reading-taken (refused n q) {b} {p} e = absurd (let z : ◌≡◌ {A = ℕ} 0 1 = cc in omega arith)
-  reading-taken (taken a q) {b} {p} e = (a, cc, cc)
+-- no bytes are left over
+unfoldable whole : List ℕ → theory.Sheet → ℕ → Read theory.Sheet
+whole bs s p = elim (ltb p (length bs)) [ true ↦ refused 6 p | false ↦ taken s p ]
 
-  reading-refused : (r : Read A) {n p : ℕ} → reading f r ≡ refused n p → r ≡ refused n p
-  reading-refused (refused m q) {n} {p} e = cc
-  reading-refused (taken a q) {n} {p} e = absurd (let z : ◌≡◌ {A = ℕ} 0 1 = cc in omega arith)
+as-whole : (bs : List ℕ) → read_sheet bs ≡ then (sections_at bs) (whole bs)
+unfolding read_sheet whole
+as-whole bs = refl
 
--- a section that was read is what was wanted, and so is its refusal
-pub record Part {A : Type 0} (f : A → Triple) (g : Triple → A) (wanted : Read (List A)) (r : SectionRead) : Type 0 where
-  pub refused_as : {why : Reason} {p : ℕ} → r.outcome ≡ Refused why p → wanted ≡ refused (reason_number why) p
-  pub taken_as : {p : ℕ} → r.outcome ≡ Behind p → wanted ≡ taken (map g (triples r.section)) p
-  pub tidy : {p : ℕ} → r.outcome ≡ Behind p → Tidy f g r.section
+whole-then : {B : Type 0} (bs : List ℕ) (s : theory.Sheet) (p : ℕ) (f : theory.Sheet → ℕ → Read B)
+    → then (whole bs s p) f ≡ elim (ltb p (length bs)) [ true ↦ refused 6 p | false ↦ f s p ]
+unfolding whole
+whole-then {B} bs s p f = go (ltb p (length bs))
+  where
+    go : (b : Bool) → then (elim b [ true ↦ refused 6 p | false ↦ taken s p ]) f ≡ elim b [ true ↦ refused 6 p | false ↦ f s p ]
+    go true = refl
+    go false = refl
 
-module _ {A : Type 0} (f : A → Triple) (g : Triple → A) (back : (a : A) → g (f a) ≡ a) (wanted : Read (List A)) {w : Read (List Triple)} (is : w ≡ reading (map f) wanted) where
-  part : {r : SectionRead} → SectionPromise w r → Part f g wanted r
-  part {r} promise = record {
-    refused_as = λ e. reading-refused (map f) wanted (read e);
-    taken_as = λ e. let (l, t, m) = reading-taken (map f) wanted (read e) in rw (same l m) t;
-    tidy = λ e. let (l, t, m) = reading-taken (map f) wanted (read e) in promise.tidy ∙ ap section_form (sym m ∙ ap (map f) (sym (same l m)));
-  }
-    where
-      read : {o : Stop} → r.outcome ≡ o → reading (map f) wanted ≡ stop_read (triples r.section) o
-      read e = sym is ∙ sym promise.exact ∙ ap (stop_read (triples r.section)) e
+-- a section as the code reads it: at most m entries, by their numbers
+module _ {A : Type 0} (bs : List ℕ) (m : ℕ) (f : A → Triple) (one : ℕ → ℕ → Read A) (p : ℕ) where
+  unfoldable pub section_at : Read Section
+  section_at = reading section_form (counted_at bs m (λ i p. reading f (one i p)) p)
 
-      same : (l : List A) → map f l ≡ triples r.section → map g (triples r.section) ≡ l
-      same l m = ap (map g) (sym m) ∙ map_back f g back l
-
-module _ (bs : List ℕ) (n k p : ℕ) {r : SectionRead} where
-  pub line-part : SectionPromise (section_at Lines bs n k p) r → Part line_triple line_of (counted_at bs most_lines (line_at bs) p) r
+  section-map : section_at ≡ reading (λ l. section_form (map f l)) (counted_at bs m one p)
   unfolding section_at
-  line-part = part line_triple line_of line-back _ (counted-map line_triple bs most_lines (line_at bs) p)
-
-  pub rule-part : SectionPromise (section_at Rules bs n k p) r → Part rule_triple rule_of (counted_at bs most_rules (rule_at bs n) p) r
-  unfolding section_at
-  rule-part = part rule_triple rule_of (λ _. refl) _ (counted-map rule_triple bs most_rules (rule_at bs n) p)
-
-  pub class-part : SectionPromise (section_at Classes bs n k p) r → Part class_triple class_of (counted_at bs most_classes (class_at bs n k) p) r
-  unfolding section_at
-  class-part = part class_triple class_of (λ _. refl) _ (counted-map class_triple bs most_classes (class_at bs n k) p)
-
-  pub role-part : SectionPromise (section_at Roles bs n k p) r → Part role_triple role_of (counted_at bs most_roles (role_at bs k) p) r
-  unfolding section_at
-  role-part = part role_triple role_of (λ _. refl) _ (counted-map role_triple bs most_roles (role_at bs k) p)
-
--- ---- the whole sheet
-module _ (bs : List ℕ) (wanted : Read theory.Sheet) where
-  pub sheet-refused : {r : Readout} {stop : Stop} {why : Reason} {p : ℕ} → r ≡ refused_sheet stop → stop ≡ Refused why p → wanted ≡ refused (reason_number why) p
-      → ReadsAs bs wanted r
-  sheet-refused {r} {stop} {why} {p} e s w =
-      rw (e ∙ ap refused_sheet s) (record { exact = sym w; clean = record { tidy = ap form_of (sym (sheet-form empty_sheet)); empty = λ _ _ _. refl } })
-
-  pub sheet-accepted : {r : Readout} {ls rs cs es : Section} {k : ℕ} → r ≡ accepted_sheet ls rs k cs es
-      → Tidy line_triple line_of ls → Tidy rule_triple rule_of rs → Tidy class_triple class_of cs → Tidy role_triple role_of es
-      → wanted ≡ taken (sheet_of (accepted_sheet ls rs k cs es).sheet) (length bs) → ReadsAs bs wanted r
-  unfolding form_of sheet_of
-  sheet-accepted {r} {ls} {rs} {cs} {es} {k} e a b c d w = rw e (record {
-    exact = sym w;
-    clean = record {
-      tidy = λ i. record { lines = a i; rules = b i; individuals = k; classes = c i; roles = d i };
-      empty = λ why p e. absurd (let z : ◌≡◌ {A = ℕ} 0 1 = cc in omega arith);
-    };
-  })
+  section-map = rw (counted-map f bs m one p) (then-then (counted_at bs m one p) _ _)
 
 -- a sheet is its lines, its rules, and the facts behind them
 pub by-facts : (bs : List ℕ)
@@ -93,15 +49,32 @@ pub by-facts : (bs : List ℕ)
 unfolding read_sheet sections_at facts_at
 by-facts bs = simp then-then
 
--- all five sections are read: what is left decides
-module _ (bs : List ℕ) (ls : List Line) (rs : List Rule) (q : ℕ) {n k t u v : ℕ} {cs : List ClassAssertion} {es : List RoleAssertion} (many : length ls ≡ n)
-    (i : below_at bs (suc most_individuals) 3 q ≡ taken k t) (c : counted_at bs most_classes (class_at bs n k) t ≡ taken cs u) (r : counted_at bs most_roles (role_at bs k) u ≡ taken es v) where
-  pub facts-over : v < length bs → facts_at bs ls rs q ≡ refused 6 v
-  unfolding facts_at
-  facts-over h = rw (many, i, c, r, lt-ltb v (length bs) h, then)
+-- the form of a sheet is its sections' forms
+pub by_sections : (bs : List ℕ) → reading form_of (read_sheet bs)
+    ≡ then (section_at bs most_lines line_triple (line_at bs) 0) (λ lines p.
+    then (section_at bs most_rules rule_triple (rule_at bs lines.count) p) (λ rules q.
+    then (below_at bs 9 3 q) (λ k t.
+    then (section_at bs most_classes class_triple (class_at bs lines.count k) t) (λ classes u.
+    then (section_at bs most_roles role_triple (role_at bs k) u) (λ roles v.
+    elim (ltb v (length bs)) [ true ↦ refused 6 v | false ↦ taken (record { lines = lines; rules = rules; individuals = k; classes = classes; roles = roles }) v ])))))
+unfolding sections_at section_form form_of
+by_sections bs = simp (as-whole, whole-then, section-map, then-then, length-map)
 
-  pub facts-all : length bs ≤ v → facts_at bs ls rs q ≡ taken (record { lines = ls; rules = rs; individuals = k; classes = cs; roles = es }) (length bs)
-  unfolding facts_at
-  facts-all h =
-      let e : v ≡ length bs = omega (arith, (given (roles-give bs k u) r).1) in
-      rw (many, i, c, r, le-ltb v (length bs) h, then) (cc)
+-- ---- an answer that reads as this keeps the promise
+abbrev pub form_read : Result Sheet Refusal → ℕ → Read Sheet
+form_read (Ok f) v = taken f v
+form_read (Err e) v = refused (reason_number e.why) e.at
+
+module _ (bs : List ℕ) where
+  by-read : (r : Result Sheet Refusal) (v : ℕ) (w : Read theory.Sheet) → read_sheet bs ≡ w → form_read r v ≡ reading form_of w → ReadPromise bs r
+  by-read (Err e) v (refused n p) is h = read_kept bs (Err e) (sym (is ∙ (cc))) tt
+  by-read (Err e) v (taken s p) is h = cc
+  by-read (Ok f) v (refused n p) is h = cc
+  by-read (Ok f) v (taken s p) is h =
+      let same : f ≡ form_of s = cc in
+      let said : sheet_of f ≡ s = ap sheet_of same ∙ sheet-form s in
+      let all : p ≡ length bs = ((accepted-is bs s p).0 is).3 in
+      read_kept bs (Ok f) (ap₂ {C = Read theory.Sheet} taken said (sym all) ∙ sym is) (same ∙ ap form_of (sym said))
+
+  pub kept : (r : Result Sheet Refusal) (v : ℕ) → form_read r v ≡ reading form_of (read_sheet bs) → ReadPromise bs r
+  kept r v h = by-read r v (read_sheet bs) refl h

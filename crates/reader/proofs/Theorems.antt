@@ -1,13 +1,16 @@
 -- The form and the sheet: neither loses anything, and what the reader promises settles its answer. Assumes nothing.
-use Rattle.std.specs.Prelude.{◌≡◌, get_or, replicate}
-use Rattle.std.proofs.Math.Path.{refl, ap, fun_ext}
-use Rattle.std.proofs.Common.{sym, ap₂, ◌∙◌, arith}
-use mathlib.Core.List.{List, [], ◌∷◌, ◌++◌, map}
+use Rattle.std.specs.Prelude.{◌≡◌, get_or, take, replicate, Result, Ok, Err, IfOk, IsOkAnd}
+use Rattle.std.proofs.Math.Path.{refl, ap}
+use Rattle.std.proofs.Common.{sym, ap₂, ◌∙◌, arith, length-append}
+use Rattle.std.proofs.Math.Seq.{take-append_seam}
+use mathlib.Core.List.{List, [], ◌∷◌, map}
 use Prim.Native.Nat.{ℕ, zero, suc, ◌-◌, ◌≤◌}
-use Rattle.std.proofs.Math.ListN.{length, get_or-map}
+use Rattle.std.proofs.Math.ListN.{length}
 use Rattle.std.proofs.lemmas.List.{length-map}
 use Rattle.alc.specs.Lists.{from, up_to}
-use Rattle.alc.specs.Sheet.{Line, top, bottom, name, not, and, or, some, only, most_lines, most_rules, most_individuals, most_classes, most_roles}
+use Rattle.alc.specs.declared.Line.{Line}
+use Rattle.alc.specs.declared.Line.TheVariants.{Top as top, Bottom as bottom, Name as name, Not as negation, And as and, Or as or, Some as some, Only as only}
+use Rattle.alc.specs.Sheet.{most_lines, most_rules, most_individuals, most_classes, most_roles}
 use Rattle.alc.specs.Sheet as theory
 use Rattle.alc.specs.Bytes.{taken, read_sheet}
 use Rattle.alc.proofs.Theorems.Bytes.{laid-read, faults-of}
@@ -15,14 +18,13 @@ use Rattle.sheet.specs.declared.Reason.{Reason}
 use Rattle.sheet.specs.declared.Reason.TheVariants.{Cut, BadlyFormed, OverLimit, TooLarge, NotThere, LeftOver, LentBadly, OffSheet}
 use Rattle.sheet.specs.declared.Section.{Section}
 use Rattle.sheet.specs.declared.Sheet.{Sheet}
-use Rattle.sheet.specs.declared.Outcome.{Outcome}
-use Rattle.sheet.specs.declared.Outcome.TheVariants.{Accepted, Refused}
-use Rattle.sheet.specs.declared.Readout.{Readout}
-use Rattle.sheet.specs.Form.{outcome_read, reason_number, Triple, triple, padded, section_form, triples, line_of, line_triple, rule_of, rule_triple, class_of}
-use Rattle.sheet.specs.Form.{class_triple, role_of, role_triple, sheet_of, form_of, empty_sheet}
-use Rattle.numbers.specs.Reading.{given}
-use Rattle.reader.specs.Promise.{ReadsAs, ReadPromise}
-use Rattle.reader.specs.Reading.{Counts, sheet-gives}
+use Rattle.sheet.specs.declared.Refusal.{Refusal}
+use Rattle.sheet.specs.declared.Entry.{Entry as Triple}
+use Rattle.sheet.specs.Form.{reason_number, triple, padded, section_form, triples, line_of, line_triple, rule_of, rule_triple, class_of}
+use Rattle.sheet.specs.Form.{class_triple, role_of, role_triple, sheet_of, form_of}
+use Rattle.numbers.proofs.Reading.{given}
+use Rattle.reader.specs.Promise.{readout_read, ReadPromise}
+use Rattle.reader.proofs.Reading.{Counts, sheet-gives}
 
 -- ---- a list by its places
 module _ {A : Type 0} where
@@ -30,34 +32,21 @@ module _ {A : Type 0} where
   from_suc f a zero = refl
   from_suc f a (suc k) = ap (λ (l : List A). f (suc a) ∷ l) (from_suc f (suc a) k)
 
-  by-places : (l : List A) (d : A) → map (λ i. get_or l i d) (up_to (length l)) ≡ l
-  by-places [] d = refl
-  by-places (x ∷ l) d = ap (λ (r : List A). x ∷ r) (from_suc (λ i. get_or (x ∷ l) i d) 0 (length l) ∙ by-places l d)
+  by-places : (l : List A) (d : A) (n : ℕ) → n ≤ length l → map (λ i. get_or l i d) (up_to n) ≡ take n l
+  by-places l d zero h = refl
+  by-places [] d (suc n) h = absurd (omega arith)
+  by-places (x ∷ l) d (suc n) h = ap (λ (r : List A). x ∷ r) (from_suc (λ i. get_or (x ∷ l) i d) 0 n ∙ by-places l d n (omega arith))
 
--- ---- zeros behind the entries are what `get_or` says there anyway
-get_or-zeros : (n i : ℕ) → ◌≡◌ {A = ℕ} (get_or (replicate n 0) i 0) 0
-get_or-zeros zero i = refl
-get_or-zeros (suc n) zero = refl
-get_or-zeros (suc n) (suc i) = get_or-zeros n i
+-- the entries of a section are the first that it holds
+pub triples-front : (s : Section) → s.count ≤ length s.entries → triples s ≡ take s.count s.entries
+unfolding triples
+triples-front s h = by-places s.entries (triple 0 0 0) s.count h
 
-get_or-behind : (xs : List ℕ) (n i : ℕ) → get_or (xs ++ replicate n 0) i 0 ≡ get_or xs i 0
-get_or-behind [] n i = get_or-zeros n i
-get_or-behind (x ∷ xs) n zero = refl
-get_or-behind (x ∷ xs) n (suc i) = get_or-behind xs n i
-
-module _ (ts : List Triple) where
-  entry : (f : Triple → ℕ) → f (triple 0 0 0) ≡ 0 → (i : ℕ) → get_or (padded (map f ts)) i 0 ≡ f (get_or ts i (triple 0 0 0))
-  unfolding padded
-  entry f z i = get_or-behind (map f ts) (most_lines - length (map f ts)) i ∙ ap (get_or (map f ts) i) (sym z) ∙ get_or-map f ts i (triple 0 0 0)
-
-  -- the entries of the form of a section are those that it was made of
-  pub triples-form : triples (section_form ts) ≡ ts
-  unfolding triples section_form
-  triples-form =
-      ap (λ (f : ℕ → Triple). map f (up_to (length ts)))
-      (fun_ext λ i. λ j. triple (entry (λ (t : Triple). t.first) refl i j) (entry (λ (t : Triple). t.second) refl i j)
-      (entry (λ (t : Triple). t.third) refl i j))
-      ∙ by-places ts (triple 0 0 0)
+-- the entries of the form of a section are those that it was made of
+pub triples-form : (ts : List Triple) → triples (section_form ts) ≡ ts
+unfolding section_form padded
+triples-form ts =
+    triples-front (section_form ts) (simp length-append (omega arith)) ∙ take-append_seam ts (replicate (most_lines - length ts) (triple 0 0 0))
 
 -- as many entries as the section counts
 length_from : (a k : ℕ) → length (from a k) ≡ k
@@ -81,7 +70,7 @@ pub line-back : (l : Line) → line_of (line_triple l) ≡ l
 line-back top = refl
 line-back bottom = refl
 line-back (name a) = refl
-line-back (not i) = refl
+line-back (negation i) = refl
 line-back (and i j) = refl
 line-back (or i j) = refl
 line-back (some r i) = refl
@@ -127,43 +116,32 @@ pub reason-one : (r t : Reason) → reason_number r ≡ reason_number t → r �
 reason-one r t e = sym (reason-back r) ∙ ap reason_of e ∙ reason-back t
 
 -- ---- what reads as alc's reading keeps the promise
-module _ (bs : List ℕ) (r : Readout) (reads : ReadsAs bs (read_sheet bs) r) where
-  accepted-as : (s : theory.Sheet) (o : Outcome) → r.outcome ≡ o → outcome_read (sheet_of r.sheet) (length bs) o ≡ taken s (length bs)
-      → (r.outcome ≡ Accepted) × (sheet_of r.sheet ≡ s)
-  accepted-as s Accepted f e = (f, cc)
-  accepted-as s (Refused why at) f e = absurd (let z : ◌≡◌ {A = ℕ} 0 1 = cc in omega arith)
+module _ (bs : List ℕ) (r : Result Sheet Refusal) (exact : readout_read bs r ≡ read_sheet bs) (tidy : IfOk r (λ f. f ≡ form_of (sheet_of f))) where
+  accepted-as : (s : theory.Sheet) (a : Result Sheet Refusal) → readout_read bs a ≡ taken s (length bs) → IsOkAnd a (λ f. sheet_of f ≡ s)
+  accepted-as s (Ok f) e = cc
+  accepted-as s (Err x) e = cc
 
   pub read_kept : ReadPromise bs r
   read_kept = record {
-    exact = reads.exact;
-    clean = reads.clean;
-    faults = faults-of bs _ (λ n p _. ((λ e. sym reads.exact ∙ e), λ e. reads.exact ∙ e));
-    accepted = λ s h. accepted-as s r.outcome refl (reads.exact ∙ laid-read bs s h);
+    exact = exact;
+    tidy = tidy;
+    faults = faults-of bs _ (λ n p _. ((λ e. sym exact ∙ e), λ e. exact ∙ e));
+    accepted = λ s h. accepted-as s r (exact ∙ laid-read bs s h);
   }
 
--- two readouts that keep the promise are one
-module _ (bs : List ℕ) (r t : Readout) (p : ReadPromise bs r) (q : ReadPromise bs t) where
-  same-sheet : sheet_of r.sheet ≡ sheet_of t.sheet → r.sheet ≡ t.sheet
-  same-sheet e = p.clean.tidy ∙ ap form_of e ∙ sym q.clean.tidy
-
-  made : r.sheet ≡ t.sheet → r.outcome ≡ t.outcome → r ≡ t
-  made e o = λ i. record { sheet = e i; outcome = o i }
-
-  pub read_one : r ≡ t
-  read_one = go r.outcome t.outcome refl refl
-    where
-      read : {a b : Outcome} → r.outcome ≡ a → t.outcome ≡ b → outcome_read (sheet_of r.sheet) (length bs) a ≡ outcome_read (sheet_of t.sheet) (length bs) b
-      read f g = rw (← f, ← g) (p.exact ∙ sym q.exact)
-
-      go : (a b : Outcome) → r.outcome ≡ a → t.outcome ≡ b → r ≡ t
-      go Accepted Accepted f g = let e = read f g in made (same-sheet (cc)) (f ∙ sym g)
-      go Accepted (Refused why at) f g = absurd (let e = read f g in let z : ◌≡◌ {A = ℕ} 0 1 = cc in omega arith)
-      go (Refused why at) Accepted f g = absurd (let e = read f g in let z : ◌≡◌ {A = ℕ} 0 1 = cc in omega arith)
-      go (Refused why at) (Refused why' at') f g =
-          let e = read f g in
-          let n : reason_number why ≡ reason_number why' = cc in
-          let m : at ≡ at' = cc in
-          made (p.clean.empty why at f ∙ sym (q.clean.empty why' at' g)) (f ∙ ap₂ {C = Outcome} Refused (reason-one why why' n) m ∙ sym g)
+-- two answers that keep the promise are one
+pub read_one : (bs : List ℕ) (r t : Result Sheet Refusal) → ReadPromise bs r → ReadPromise bs t → r ≡ t
+read_one bs (Ok f) (Ok g) p q =
+    let e : sheet_of f ≡ sheet_of g = let same = p.exact ∙ sym q.exact in cc in
+    ap {B = Result Sheet Refusal} Ok (p.tidy ∙ ap form_of e ∙ sym q.tidy)
+read_one bs (Ok f) (Err y) p q = let same = p.exact ∙ sym q.exact in cc
+read_one bs (Err x) (Ok g) p q = let same = p.exact ∙ sym q.exact in cc
+read_one bs (Err x) (Err y) p q =
+    let same = p.exact ∙ sym q.exact in
+    let n : reason_number x.why ≡ reason_number y.why = cc in
+    let m : x.at ≡ y.at = cc in
+    let w = reason-one x.why y.why n in
+    λ i. Err (record { why = w i; at = m i })
 
 -- ---- the counts of the form that the reader gives: within the limits, so within the arrays
 pub record FormCounts (s : Sheet) : Type 0 where
@@ -183,12 +161,5 @@ form-counts s c = record {
   roles = omega (arith, entry-count role_of s.roles, c.roles);
 }
 
-empty-counts : Counts empty_sheet
-empty-counts = record { lines = omega arith; rules = omega arith; individuals = omega arith; classes = omega arith; roles = omega arith }
-
-pub read-counts : (bs : List ℕ) (r : Readout) → ReadPromise bs r → FormCounts r.sheet
-read-counts bs r p = form-counts r.sheet (go r.outcome refl)
-  where
-    go : (o : Outcome) → r.outcome ≡ o → Counts (sheet_of r.sheet)
-    go Accepted e = given (sheet-gives bs) (sym p.exact ∙ ap (outcome_read (sheet_of r.sheet) (length bs)) e)
-    go (Refused why at) e = rw (p.clean.empty why at e, sheet-form empty_sheet) empty-counts
+pub read-counts : (bs : List ℕ) (r : Result Sheet Refusal) → ReadPromise bs r → (s : Sheet) → r ≡ Ok s → FormCounts s
+read-counts bs r p s e = form-counts s (given (sheet-gives bs) (sym p.exact ∙ ap (readout_read bs) e))

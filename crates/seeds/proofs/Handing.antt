@@ -1,33 +1,28 @@
--- What goes along a role, and the seeds asked for: what the loop over lines keeps, and each line by the numbers of the plan. Assumes nothing.
-use Prim.Native.Nat.{ℕ, suc, ◌+◌, ◌-◌, ◌^◌, ◌≤◌, ◌<◌}
-use mathlib.Core.Bool.{Bool, true, false, ◌&&◌, ◌||◌, cond, true≢false}
-use mathlib.Core.Path.{◌≡◌, refl, sym, ◌∙◌, ap, ap₂}
-use mathlib.Core.Logic.{⊎_elim}
-use mathlib.Core.List.{List, [], ◌∷◌, ◌++◌}
-use native.Mathlib.Omega.{arith}
-use lib.Dec.{eqb}
-use lib.Bits.{bit_or, bit_and}
-use lib.ListN.{get_or}
-use borrow.Author.Tests.{eq-eqb, ne_eqb, le-ltb}
-use Rattle.alc.specs.Bits.{bit, members}
-use Rattle.alc.specs.Lists.{each}
-use Rattle.alc.specs.Sheet.{Line, top, bottom, name, not, and, or, some, only, Sheet, count, line}
+-- What goes along a role, and the seeds asked for: what the loops over lines keep. Assumes nothing.
+use Rattle.std.specs.Prelude.{ℕ, ◌<◌, Bool, true, false, ◌&&◌, ◌||◌, ◌≡◌, refl, List, [], ◌∷◌, eqb, MatchOption}
+use Rattle.std.proofs.Common.{true≢false, sym, ◌∙◌, ap, subst, ⊎_elim, arith}
+use mathlib.Core.List.Memᴰ
+use Rattle.std.specs.Prelude.{Option as Maybe, None as nothing, Some as just}
+use Rattle.alc.specs.Lists.{◌∈◌, each}
+use Rattle.alc.specs.declared.Line.{Line}
+use Rattle.alc.specs.declared.Line.TheVariants.{Top as top, Bottom as bottom, Name as name, Not as negation, And as and, Or as or, Some as some, Only as only}
+use Rattle.alc.specs.Sheet.{Sheet, count, line}
 use Rattle.alc.specs.declared.Label.{Label}
 use Rattle.alc.specs.declared.Mark.{Mark}
 use Rattle.alc.specs.declared.Mark.TheVariants.{Holds as holds, Fails as fails}
-use Rattle.alc.specs.Label.{blank, has, add, add_all, join, handed, pushed}
-use Rattle.alc.specs.Seeds.{seed_of, asks_of, is_quantified}
+use Rattle.alc.specs.Label.{blank, line_of, has, add_all, join, handed, pushed}
+use Rattle.alc.specs.Seeds.{asks_of, asks, is_quantified}
 use Rattle.alc.proofs.Theorems.Bits.{bit-ext}
-use Rattle.alc.proofs.Theorems.Lists.{and-false-right, same?, clashing, tests_same, or_cases, or_left, or_right}
+use Rattle.alc.proofs.Theorems.Lists.{and-false-right, clashing, tests_same, or_cases, or_left, or_right, here}
 use Rattle.alc.proofs.Theorems.Label.{has-blank, has_join}
-use Rattle.alc.proofs.Theorems.Members.{members-none, Inside, lowest-of, rest_of, rest-each, rest-inside}
 use Rattle.alc.proofs.Theorems.Moves.{add_all-keeps, add_all-has, add_all-cases}
-use Rattle.seeds.specs.declared.Asked.{Asked}
-use Rattle.seeds.specs.declared.Asked.TheVariants.{Nothing as Nobody, Seed}
-use Rattle.plan.specs.Plan.{plan_sheet, Prepared}
-use Rattle.seeds.specs.Asks.{handed_at, asked_of, asked_at}
-use Rattle.plan.proofs.Lines.{by_kind, line-is, line-of-kind, lines_fit}
-use Rattle.plan.proofs.Walking.{marked-inside, marked-each}
+use Rattle.alc.proofs.Theorems.Steps.{handed-below}
+use Rattle.plan.specs.declared.Plan.{Plan}
+use Rattle.plan.specs.Prepared.{marked_lines}
+use Rattle.plan.specs.Plan.{plan_sheet}
+use Rattle.plan.proofs.Lines.{lines_fit, operands-smaller}
+use Rattle.plan.proofs.Walking.{Each, each-rest, marked-below, marked-each}
+use Rattle.seeds.specs.Asks.{handed_at, asks_at}
 
 -- ---- adding marks
 -- two labels with the same marks are one
@@ -51,125 +46,52 @@ add_all-join l ms =
     (λ h. or_left (has l m) (has (add_all blank ms) m) h)
     (add_all-cases l ms m e)))
 
-add_all-append : (l : Label) (ms ns : List Mark) → add_all l (ms ++ ns) ≡ add_all (add_all l ms) ns
-add_all-append l [] ns = refl
-add_all-append l (m ∷ ms) ns = add_all-append (add l m) ms ns
-
 -- ---- lines that have no mark, or are of another kind
-pub unmarked : (h f : Bool) → ((h || f) && true) ≡ false → (h ≡ false) × (f ≡ false)
+unmarked : (h f : Bool) → ((h || f) && true) ≡ false → (h ≡ false) × (f ≡ false)
 unmarked true f e = absurd (true≢false e)
 unmarked false true e = absurd (true≢false e)
 unmarked false false e = (refl, refl)
 
 -- a line without a mark, or that is neither some nor only, hands on nothing and asks for nothing
-pub silent : (s : Sheet) (l : Label) (r : ℕ) (h f : Bool) (c : Line) → ((h || f) && is_quantified c) ≡ false → (handed r h f c ≡ []) × (asks_of s l h f c ≡ [])
+silent : (s : Sheet) (l : Label) (r : ℕ) (h f : Bool) (c : Line) → ((h || f) && is_quantified c) ≡ false → (handed r h f c ≡ []) × (asks_of s l h f c ≡ [])
 silent s l r h f top e = (refl, refl)
 silent s l r h f bottom e = (refl, refl)
 silent s l r h f (name a) e = (refl, refl)
-silent s l r h f (not i) e = (refl, refl)
+silent s l r h f (negation i) e = (refl, refl)
 silent s l r h f (and i j) e = (refl, refl)
 silent s l r h f (or i j) e = (refl, refl)
 silent s l r h f (some q i) e = rw ((unmarked h f e).0, (unmarked h f e).1, and-false-right (eqb q r) false refl) (refl, refl)
 silent s l r h f (only q i) e = rw ((unmarked h f e).0, (unmarked h f e).1, and-false-right (eqb q r) false refl) (refl, refl)
 
+module _ (s : Sheet) (l : Label) where
+  -- so all that goes along a role, and all that is asked for, is that of the some and only lines with a mark
+  pushed-marked : (r : ℕ) → each (handed_at s r l) (marked_lines is_quantified s l) ≡ pushed s r l
+  unfolding pushed
+  pushed-marked r = marked-each is_quantified s l (handed_at s r l) (λ i b e. (silent s l r (has l (holds i)) (has l (fails i)) (line s i) e).0)
+
+  pub asks-marked : each (asks_at s l) (marked_lines is_quantified s l) ≡ asks s l
+  unfolding asks
+  asks-marked = marked-each is_quantified s l (asks_at s l) (λ i b e. (silent s l 0 (has l (holds i)) (has l (fails i)) (line s i) e).1)
+
 -- ---- the loop over what goes along a role: what is handed on, with what is left to hand on, is the whole
-pub record Handing (p : List ℕ) (r : ℕ) (l : Label) (marks : Label) (left : ℕ) : Type 0 where
-  pub inside : Inside (count (plan_sheet p)) left
-  pub rest : add_all marks (each (handed_at (plan_sheet p) r l) (members 32 left)) ≡ add_all blank (pushed (plan_sheet p) r l)
+pub record Handing (s : Sheet) (r : ℕ) (l : Label) (marks : Label) (left : List ℕ) : Type 0 where
+  pub lines : Each (λ i. i < count s) left
+  pub rest : add_all marks (each (handed_at s r l) left) ≡ add_all blank (pushed s r l)
 
-pub handing : {p : List ℕ} (r : ℕ) (l : Label) → Prepared p → l.holding < 2 ^ 32 → l.failing < 2 ^ 32 → Handing p r l blank (bit_and (bit_or l.holding l.failing) (get_or p 390 0))
-unfolding pushed
-handing {p} r l pre h< f< =
+pub handing : (s : Sheet) (r : ℕ) (l : Label) {left : List ℕ} → left ≡ marked_lines is_quantified s l → Handing s r l blank left
+handing s r l e =
+    subst (Handing s r l blank) (sym e)
+    (record { lines = marked-below is_quantified s l; rest = ap (add_all blank) (pushed-marked s l r) })
+
+-- what is handed on is of a line, of which there are 32 at most
+pub handed-fits : (p : Plan) (r : ℕ) (l : Label) (i : ℕ) {m : Mark} → i < count (plan_sheet p) → m ∷ [] ≡ handed_at (plan_sheet p) r l i → line_of m < 32
+handed-fits p r l i {m} b e =
     let s = plan_sheet p in
-    record {
-      inside = marked-inside s l h< f< is_quantified refl (get_or p 390 0) pre.asking;
-      rest =
-          ap (add_all blank) (marked-each s l h< f< is_quantified refl (get_or p 390 0) pre.asking (lines_fit pre) (handed_at s r l)
-          (λ i e. (silent s l r (has l (holds i)) (has l (fails i)) (line s i) e).0));
-    }
+    let h = handed-below i (line s i) (operands-smaller s p.prepared.well i b) r (has l (holds i)) (has l (fails i)) m (subst (λ (ms : List Mark). m ∈ ms) e here) in
+    omega (arith, lines_fit p)
 
-pub hand_on : {p : List ℕ} {r : ℕ} {l marks : Label} {left : ℕ} → Handing p r l marks left → (h : 0 < left)
-    → Handing p r l (join marks (add_all blank (handed_at (plan_sheet p) r l (lowest-of left)))) (rest_of left)
-hand_on {p} {r} {l} {marks} {left} g h =
-    let here-marks = handed_at (plan_sheet p) r l (lowest-of left) in
-    let others = each (handed_at (plan_sheet p) r l) (members 32 (rest_of left)) in
-    record {
-      inside = rest-inside g.inside h;
-      rest =
-          ap (λ (k : Label). add_all k others) (add_all-join marks here-marks)
-          ∙ sym (add_all-append marks here-marks others)
-          ∙ ap (add_all marks) (sym (rest-each g.inside h (handed_at (plan_sheet p) r l)))
-          ∙ g.rest;
-    }
-
-pub handed-all : {p : List ℕ} {r : ℕ} {l marks : Label} {left : ℕ} → Handing p r l marks left → left ≡ 0 → marks ≡ add_all blank (pushed (plan_sheet p) r l)
-handed-all {p} {r} {l} {marks} {left} g e = sym (ap (λ ms. add_all marks (each (handed_at (plan_sheet p) r l) ms)) (ap (members 32) e ∙ members-none 32)) ∙ g.rest
-
--- ---- what one line hands on and asks for, by the numbers of the plan
--- the seed asked for, as the code makes it: the mark, joined with all that goes along the role
-pub seeded : (s : Sheet) (l : Label) (r : ℕ) (m : Mark) {start seed along whole : Label} → start ≡ blank → seed ≡ add start m → along ≡ add_all blank (pushed s r l)
-    → whole ≡ join seed along → whole ≡ seed_of s l r m
-unfolding seed_of
-seeded s l r m a b c d = d ∙ ap₂ join (b ∙ ap (λ (k : Label). add k m) a) c ∙ add_all-join (add blank m) (pushed s r l)
-
--- asked for where the mark is there
-abbrev pub ask_if : Sheet → Label → Bool → ℕ → Mark → Asked
-ask_if s l t r m = cond t (Seed r (seed_of s l r m)) Nobody
-
-ask-if : (s : Sheet) (l : Label) (t : Bool) (r : ℕ) (m : Mark) → ask_if s l t r m ≡ asked_of (cond t (record { role = r; seed = seed_of s l r m } ∷ []) [])
-ask-if s l true r m = refl
-ask-if s l false r m = refl
-
--- the role and the line that a some or only line names
-abbrev pub role_at : List ℕ → ℕ → ℕ
-role_at p i = get_or p (32 + i) 0
-
-abbrev pub filler_at : List ℕ → ℕ → ℕ
-filler_at p i = get_or p (64 + i) 0
-
-module _ (p : List ℕ) (i : ℕ) (b : i < count (plan_sheet p)) where
-  some-line : get_or p i 0 ≡ 6 → line (plan_sheet p) i ≡ some (role_at p i) (filler_at p i)
-  some-line e = line-of-kind p i 6 b e
-
-  -- a kind of 7 or more
-  only-line : 6 < get_or p i 0 → line (plan_sheet p) i ≡ only (role_at p i) (filler_at p i)
-  only-line h = line-of-kind p i (suc (suc (suc (suc (suc (suc (suc (get_or p i 0 - 7)))))))) b (omega arith)
-
-  module _ (l : Label) where
-    -- of another kind
-    plain : get_or p i 0 < 6 → ((has l (holds i) || has l (fails i)) && is_quantified (line (plan_sheet p) i)) ≡ false
-    plain e =
-        and-false-right (has l (holds i) || has l (fails i)) (is_quantified (line (plan_sheet p) i))
-        (ap is_quantified (line-is p i b) ∙ (by_kind (get_or p i 0) (role_at p i) (filler_at p i)).3 ∙ le-ltb 5 (get_or p i 0) (omega arith))
-
-    pub asks-some : {t : Bool} → get_or p i 0 ≡ 6 → bit l.holding i ≡ t → ask_if (plan_sheet p) l t (role_at p i) (holds (filler_at p i)) ≡ asked_at (plan_sheet p) l i
-    unfolding asked_at
-    asks-some {t} e q = rw (some-line e, q) (ask-if (plan_sheet p) l t (role_at p i) (holds (filler_at p i)))
-
-    pub asks-only : {t : Bool} → 6 < get_or p i 0 → bit l.failing i ≡ t → ask_if (plan_sheet p) l t (role_at p i) (fails (filler_at p i)) ≡ asked_at (plan_sheet p) l i
-    unfolding asked_at
-    asks-only {t} e q = rw (only-line e, q) (ask-if (plan_sheet p) l t (role_at p i) (fails (filler_at p i)))
-
-    pub asks_none : get_or p i 0 < 6 → Nobody ≡ asked_at (plan_sheet p) l i
-    unfolding asked_at
-    asks_none e = ap asked_of (sym (silent (plan_sheet p) l 0 (has l (holds i)) (has l (fails i)) (line (plan_sheet p) i) (plain e)).1)
-
-  module _ (r : ℕ) (l : Label) where
-    pub hands_none : get_or p i 0 < 6 → blank ≡ add_all blank (handed_at (plan_sheet p) r l i)
-    hands_none e = ap (add_all blank) (sym (silent (plan_sheet p) l r (has l (holds i)) (has l (fails i)) (line (plan_sheet p) i) (plain l e)).0)
-
-    -- also along another role
-    pub hands-other : 6 ≤ get_or p i 0 → (role_at p i ≡ r → ⊥) → blank ≡ add_all blank (handed_at (plan_sheet p) r l i)
-    hands-other e n =
-        ⊎_elim
-        (λ (q : get_or p i 0 ≡ 6). rw (some-line q, ne_eqb (role_at p i) r n))
-        (λ (q : get_or p i 0 ≡ 6 → ⊥). rw (only-line (omega arith), ne_eqb (role_at p i) r n))
-        (same? (get_or p i 0) 6)
-
-    pub hands-some : {t : Bool} → get_or p i 0 ≡ 6 → role_at p i ≡ r → bit l.failing i ≡ t
-        → add_all blank (cond t (fails (filler_at p i) ∷ []) []) ≡ add_all blank (handed_at (plan_sheet p) r l i)
-    hands-some e q h = rw (some-line e, eq-eqb (role_at p i) r q, h)
-
-    pub hands-only : {t : Bool} → 6 < get_or p i 0 → role_at p i ≡ r → bit l.holding i ≡ t
-        → add_all blank (cond t (holds (filler_at p i) ∷ []) []) ≡ add_all blank (handed_at (plan_sheet p) r l i)
-    hands-only e q h = rw (only-line e, eq-eqb (role_at p i) r q, h)
+-- ---- the walk over what is asked for
+-- what holds of each line that is left holds of each that is left then
+pub lines-next : {P : ℕ → Type 0} (o : Maybe ℕ) {left more : List ℕ} → MatchOption o ((left ≡ []) × (more ≡ [])) (λ i. left ≡ i ∷ more) → Each P left → Each P more
+lines-next nothing e h = λ i m. absurd (Memᴰ.not-nil (subst (λ (xs : List ℕ). i ∈ xs) e.1 m))
+lines-next (just i) e h = each-rest e h

@@ -2,85 +2,89 @@
 // What is right stands in alc's specs/Label.antt (handed, pushed) and specs/Seeds.antt; specs/Asks.antt says what the answers mean.
 #![tactic(auto)]
 
+pub mod asking; // the seeds asked for, one after the other
+
 ghost use Rattle.std.specs.Prelude.{◌≡◌, ◌<◌};
 ghost use Rattle.alc.specs.Sheet.{count};
-ghost use Rattle.alc.specs.Label.{blank, add_all, pushed};
-ghost use Rattle.plan.specs.Plan.{plan_sheet, Prepared};
-ghost use Rattle.seeds.specs.Asks.{handed_at, asked_at};
+ghost use Rattle.alc.specs.Label.{blank, add_all, line_of, pushed};
+ghost use Rattle.alc.specs.Seeds.{asks};
+ghost use Rattle.plan.specs.Plan.{plan_sheet};
+ghost use Rattle.seeds.specs.Asks.{listed, handed_at, asks_at, ask_for};
+ghost use Rattle.seeds.specs.Left.{asks_left};
 
-use alc::{Label, Mark};
+use crate::asking::Asks;
+use alc::{Ask, Label, Line, Mark};
+use plan::Plan;
 
-// What a line asks for: nothing, or a seed along a role.
-#[derive(Clone, Copy)]
-pub enum Asked {
-    Nothing,
-    Seed(u32, Label),
-}
-
-// What line i, a some or only line, hands along the role.
-fn handed_at(plan: &[u32; plan::SIZE], role: u32, l: Label, i: usize) -> Label
-    requires prepared { Prepared plan.now }
-    requires i_bound { i < count (plan_sheet plan.now) }
-    ensures { result ≡ add_all blank (handed_at (plan_sheet plan.now) role l i) }
+// What line i, a some or only line, hands along the role. This and asked_at are two tables, handed and asks_of of alc's specs; as one they read no plainer.
+#[inline]
+fn handed_at(plan: &Plan, role: u32, l: Label, i: usize) -> Option<Mark>
+    requires { i < count (plan_sheet plan.now) }
+    ensures { listed result ≡ handed_at (plan_sheet plan.now) role l i }
 {
-    let none = Label::blank();
-    let kind = plan[i];
-    if kind < plan::SOME {
-        return none;
+    match plan.line(i) {
+        Line::Some(r, line) if r == role && l.has(Mark::Fails(i)) => Some(Mark::Fails(line)),
+        Line::Only(r, line) if r == role && l.has(Mark::Holds(i)) => Some(Mark::Holds(line)),
+        _ => None,
     }
-    if plan[plan::ROW + i] != role {
-        return none;
-    }
-    let line = plan[2 * plan::ROW + i] as usize;
-    if kind == plan::SOME {
-        if (l.failing >> i) % 2 == 1 {
-            return none.add(Mark::Fails(line));
-        }
-        return none;
-    }
-    if (l.holding >> i) % 2 == 1 {
-        return none.add(Mark::Holds(line));
-    }
-    none
 }
 
 // All that goes along the role.
-pub fn pushed_along(plan: &[u32; plan::SIZE], role: u32, l: Label) -> Label
-    requires { Prepared plan.now }
+pub fn pushed_along(plan: &Plan, role: u32, l: Label) -> Label
     ensures { result ≡ add_all blank (pushed (plan_sheet plan.now) role l) }
 {
     let mut marks = Label::blank();
-    let mut left = (l.holding | l.failing) & plan[plan::ASKING];
-    while left != 0 {
-        let i = u32::trailing_zeros(left) as usize;
-        marks = marks.join(handed_at(plan, role, l, i));
-        left = left - (1u32 << i);
+    for i in plan.asking(l) {
+        if let Some(m) = handed_at(plan, role, l, i) {
+            marks = marks.add(m);
+        }
     }
     marks
 }
 
-// The seed that line i asks for, if it does: the mark asked for, with all that goes along the role.
-pub fn asked_at(plan: &[u32; plan::SIZE], l: Label, i: usize) -> Asked
-    requires prepared { Prepared plan.now }
-    requires i_bound { i < count (plan_sheet plan.now) }
-    ensures { result ≡ asked_at (plan_sheet plan.now) l i }
+// The seed asked for by a mark along a role: the mark, with all that goes along the role.
+#[inline]
+fn ask_for(plan: &Plan, l: Label, role: u32, m: Mark) -> Ask
+    requires { line_of m < 32 }
+    ensures { result ≡ ask_for (plan_sheet plan.now) l role m }
 {
-    let kind = plan[i];
-    if kind < plan::SOME {
-        return Asked::Nothing;
+    Ask {
+        role,
+        seed: Label::blank().add(m).join(pushed_along(plan, role, l)),
     }
-    let role = plan[plan::ROW + i];
-    let line = plan[2 * plan::ROW + i] as usize;
-    if kind == plan::SOME {
-        if (l.holding >> i) % 2 == 1 {
-            let seed = Label::blank().add(Mark::Holds(line));
-            return Asked::Seed(role, seed.join(pushed_along(plan, role, l)));
-        }
-        return Asked::Nothing;
+}
+
+// What line i asks for, if it does.
+#[inline]
+pub(crate) fn asked_at(plan: &Plan, l: Label, i: usize) -> Option<Ask>
+    requires { i < count (plan_sheet plan.now) }
+    ensures { listed result ≡ asks_at (plan_sheet plan.now) l i }
+{
+    match plan.line(i) {
+        Line::Some(role, line) if l.has(Mark::Holds(i)) => Some(ask_for(
+            plan,
+            l,
+            role,
+            Mark::Holds(line),
+        )),
+        Line::Only(role, line) if l.has(Mark::Fails(i)) => Some(ask_for(
+            plan,
+            l,
+            role,
+            Mark::Fails(line),
+        )),
+        _ => None,
     }
-    if (l.failing >> i) % 2 == 1 {
-        let seed = Label::blank().add(Mark::Fails(line));
-        return Asked::Seed(role, seed.join(pushed_along(plan, role, l)));
+}
+
+// All that the label asks for, asking lines ascending.
+#[inline]
+pub fn asks(plan: &Plan, l: Label) -> Asks<'_>
+    ensures { asks_left result ≡ asks (plan_sheet plan.now) l }
+{
+    Asks {
+        plan,
+        label: l,
+        left: plan.asking(l),
     }
-    Asked::Nothing
 }

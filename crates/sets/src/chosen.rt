@@ -1,25 +1,40 @@
 // A plan with some of its rules. The set is a number: rule i is worth 2^i.
-ghost use Rattle.std.specs.Prelude.{◌≡◌, ◌<◌};
-ghost use Rattle.alc.specs.Causes.{with_rules};
-ghost use Rattle.plan.specs.Plan.{plan_sheet, Prepared};
+ghost use Rattle.std.specs.Prelude.{◌≡◌, ◌≤◌, map};
+ghost use Rattle.alc.specs.Causes.{keep_rules, with_rules};
+ghost use Rattle.sheet.specs.Form.{triples, rule_of};
+ghost use Rattle.plan.specs.Plan.{plan_sheet};
 
-// The chosen rules move to the front of their rows, in the sheet's order; the lines stay, and so does what is prepared of them.
-pub fn with_rules(plan: &[u32; plan::SIZE], set: u32) -> [u32; plan::SIZE]
-    requires { Prepared plan.now }
-    ensures { Prepared result × (plan_sheet result ≡ with_rules (plan_sheet plan.now) set) }
+use plan::Plan;
+use sheet::Section;
+
+// The chosen rules move to the front, in the sheet's order.
+fn chosen(rules: &Section, set: u32) -> Section
+    requires { rules.now.count ≤ 32 }
+    ensures { map rule_of (triples result) ≡ keep_rules set 0 (map rule_of (triples rules.now)) }
 {
-    let rules = plan[plan::RULE_COUNT] as usize;
-    let mut part = *plan;
+    let mut chosen = *rules;
     let mut kept = 0;
-    let mut i = 0;
-    while i < rules {
+    for i in 0..rules.count as usize {
         if (set >> i) % 2 == 1 {
-            part[plan::RULES + kept] = plan[plan::RULES + i];
-            part[plan::RULES + plan::ROW + kept] = plan[plan::RULES + plan::ROW + i];
+            chosen.entries[kept] = rules.entries[i];
             kept += 1;
         }
-        i += 1;
     }
-    part[plan::RULE_COUNT] = kept as u32;
-    part
+    chosen.count = kept as u16;
+    chosen
+}
+
+// The lines stay, and so does what is prepared of them.
+pub fn with_rules(plan: &Plan, set: u32) -> Plan
+    ensures { plan_sheet result ≡ with_rules (plan_sheet plan.now) set }
+{
+    let mut sheet = plan.sheet;
+    sheet.rules = chosen(&plan.sheet.rules, set);
+    Plan {
+        sheet,
+        working_set: plan.working_set,
+        asking_set: plan.asking_set,
+        operand_sets: plan.operand_sets,
+        masks: plan.masks,
+    }
 }

@@ -1,89 +1,95 @@
-// The verdict on one set of rules: it is judged with "class fails" added at the port, and forces where no settled joint label is fine;
-// without it, and is contradictory where none is.
-ghost use Rattle.std.specs.Prelude.{◌≡◌, List, ◌≤◌, length};
+// A query, and the verdict on one set of rules: it is judged with "class fails" added at the port, and forces where
+// no settled joint label is fine; without it, and is contradictory where none is.
+// Records and marks stay two parameters, and that there is a mark for each record stays a clause of each function: C lends two buffers.
+ghost use Rattle.std.specs.Prelude.{◌≡◌, List, ◌≤◌, length, MatchOption};
 ghost use Rattle.alc.specs.Judge.{Entry, start};
 ghost use Rattle.alc.specs.Causes.{denial, with_rules};
-ghost use Rattle.plan.specs.Plan.{plan_sheet, Prepared};
+ghost use Rattle.plan.specs.Plan.{plan_sheet};
 ghost use Rattle.tableau.specs.Joints.{joint_of, Fit};
 ghost use Rattle.sets.specs.Sets.{OnSheet, judged_by, forced_by, contradicted_by};
 
 use crate::chosen::with_rules;
 use alc::Mark;
-use engine::judge::{Verdict, judge, start_joint};
-use tableau::joint::Labels;
+use engine::judge::{Judged, judge, start_joint};
+use plan::Plan;
+use tableau::labels::Labels;
+use tableau::records::Full;
 
-// There is no room to tell; the port is forced into the class, or the set is contradictory; or it is not.
+// A port and a class that are on the plan's sheet.
 #[derive(Clone, Copy)]
-pub enum Forced {
-    Full,
-    Yes,
-    No,
+pub struct Query<'a> {
+    pub plan: &'a Plan,
+    pub port: usize,
+    pub class: usize,
+    pub ghost on_sheet: { OnSheet (plan_sheet plan.now) port class },
 }
 
-// The class assertions, and behind them that the class fails at the port.
-fn denied(plan: &[u32; plan::SIZE], port: usize, class: usize) -> Labels
-    requires prepared { Prepared plan.now }
-    requires on_sheet { OnSheet (plan_sheet plan.now) port class }
-    ensures { (joint_of result ≡ start (plan_sheet plan.now) (denial port class)) × Fit (plan_sheet plan.now) result }
-{
-    let begin = start_joint(plan);
-    let l = begin.labels[port];
-    begin.with(port, l.add(Mark::Fails(class)))
-}
-
-// The verdict from where a joint label begins.
-fn verdict_from(
-    plan: &[u32; plan::SIZE],
+// Is no settled joint label fine, from where a joint label begins?
+fn none_fine(
+    plan: &Plan,
     begin: Labels,
     records: &mut [u64],
     marks: &mut [u8],
-) -> Forced
-    requires prepared { Prepared plan.now }
+) -> Result<bool, Full>
     requires fit { Fit (plan_sheet plan.now) begin }
     requires records_in_bounds { length records.old ≤ length marks.old }
-    ensures value { (xs : List Entry) → joint_of begin ≡ start (plan_sheet plan.now) xs → result ≡ judged_by (plan_sheet plan.now) xs (length records.old) }
-    ensures records_len_unchanged { (length records.new ≡ length records.old) × (length marks.new ≡ length marks.old) }
+    ensures { (xs : List Entry) → joint_of begin ≡ start (plan_sheet plan.now) xs → result ≡ judged_by (plan_sheet plan.now) xs (length records.old) }
 {
-    let judged = judge(plan, begin, records, marks, 0);
-    let verdict = judged.verdict;
-    match verdict {
-        Verdict::Full => Forced::Full,
-        Verdict::Going(_) => Forced::Yes,
-        Verdict::Fine(_) => Forced::No,
+    match judge(plan, begin, records, marks, 0)? {
+        Judged::Going(_) => Ok(true),
+        Judged::Fine(_, _) => Ok(false),
     }
 }
 
-// Whether the set forces the port into the class.
-pub fn forces(
-    plan: &[u32; plan::SIZE],
+// Does no finite interpretation meet the set and the assertions? Judged "without class fails".
+pub fn contradicts(
+    plan: &Plan,
     set: u32,
-    port: usize,
-    class: usize,
     records: &mut [u64],
     marks: &mut [u8],
-) -> Forced
-    requires prepared { Prepared plan.now }
-    requires on_sheet { OnSheet (plan_sheet plan.now) port class }
+) -> Result<bool, Full>
     requires records_in_bounds { length records.old ≤ length marks.old }
-    ensures value { result ≡ forced_by (with_rules (plan_sheet plan.now) set) port class (length records.old) }
-    ensures records_len_unchanged { (length records.new ≡ length records.old) × (length marks.new ≡ length marks.old) }
+    ensures { result ≡ contradicted_by (with_rules (plan_sheet plan.now) set) (length records.old) }
 {
     let part = with_rules(plan, set);
-    verdict_from(&part, denied(&part, port, class), records, marks)
+    none_fine(&part, start_joint(&part), records, marks)
 }
 
-// Whether no finite interpretation meets the set and the assertions: judged "without class fails".
-pub fn contradicts(
-    plan: &[u32; plan::SIZE],
-    set: u32,
-    records: &mut [u64],
-    marks: &mut [u8],
-) -> Forced
-    requires prepared { Prepared plan.now }
-    requires records_in_bounds { length records.old ≤ length marks.old }
-    ensures value { result ≡ contradicted_by (with_rules (plan_sheet plan.now) set) (length records.old) }
-    ensures records_len_unchanged { (length records.new ≡ length records.old) × (length marks.new ≡ length marks.old) }
-{
-    let part = with_rules(plan, set);
-    verdict_from(&part, start_joint(&part), records, marks)
+impl<'a> Query<'a> {
+    // The query of a port and a class, if both are on the sheet.
+    pub fn on(plan: &'a Plan, port: u64, class: u64) -> Option<Query<'a>>
+        ensures { MatchOption result (¬ OnSheet (plan_sheet plan.now) port class) (λ q. (q.plan.now ≡ plan.now) × (q.port ≡ port) × (q.class ≡ class)) }
+    {
+        if plan.individual_count() as u64 <= port || plan.line_count() as u64 <= class {
+            return None;
+        }
+        Some(Query {
+            plan,
+            port: port as usize,
+            class: class as usize,
+        })
+    }
+
+    // The class assertions, and behind them that the class fails at the port.
+    fn denied(&self) -> Labels
+        ensures { (joint_of result ≡ start (plan_sheet self.now.plan.now) (denial self.now.port self.now.class)) × Fit (plan_sheet self.now.plan.now) result }
+    {
+        let begin = start_joint(self.plan);
+        let l = begin.label(self.port);
+        begin.with(self.port, l.add(Mark::Fails(self.class)))
+    }
+
+    // Does the set force the port into the class?
+    pub fn forces(&self, set: u32, records: &mut [u64], marks: &mut [u8]) -> Result<bool, Full>
+        requires records_in_bounds { length records.old ≤ length marks.old }
+        ensures { result ≡ forced_by (with_rules (plan_sheet self.now.plan.now) set) self.now.port self.now.class (length records.old) }
+    {
+        let part = with_rules(self.plan, set);
+        let query = Query {
+            plan: &part,
+            port: self.port,
+            class: self.class,
+        };
+        none_fine(&part, query.denied(), records, marks)
+    }
 }

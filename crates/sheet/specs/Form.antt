@@ -1,18 +1,24 @@
--- What the code's values mean: a sheet as the code holds it and the sheet of alc's definitions, each from the other; and what an outcome says of a reading.
+-- What the code's values mean: a sheet as the code holds it and the sheet of alc's definitions, each from the other; and what an answer says of a reading.
 -- Definitions only.
-use Rattle.std.specs.Prelude.{ℕ, zero, suc, ◌-◌, cond, List, [], ◌∷◌, ◌++◌, map, length, get_or, take, replicate, leb}
+use Rattle.std.specs.Prelude.{ℕ, zero, suc, ◌-◌, cond, List, [], ◌∷◌, ◌++◌, map, length, get_or, take, replicate, leb, Result, Ok, Err}
 use Rattle.alc.specs.Lists.{up_to, each}
-use Rattle.alc.specs.Sheet.{Line, top, bottom, name, not, and, or, some, only, Rule, ClassAssertion, RoleAssertion, most_lines}
+use Rattle.alc.specs.declared.Line.{Line}
+use Rattle.alc.specs.declared.Line.TheVariants.{Top as top, Bottom as bottom, Name as name, Not as negation, And as and, Or as or, Some as some, Only as only}
+use Rattle.alc.specs.declared.Rule.{Rule}
+use Rattle.alc.specs.declared.ClassAssertion.{ClassAssertion}
+use Rattle.alc.specs.declared.RoleAssertion.{RoleAssertion}
+use Rattle.alc.specs.Sheet.{most_lines}
 use Rattle.alc.specs.Sheet as theory
 use Rattle.alc.specs.Bytes.{Read, refused, taken}
 use Rattle.sheet.specs.declared.Reason.{Reason}
 use Rattle.sheet.specs.declared.Reason.TheVariants.{Cut, BadlyFormed, OverLimit, TooLarge, NotThere, LeftOver, LentBadly, OffSheet}
 use Rattle.sheet.specs.declared.Kind.{Kind}
 use Rattle.sheet.specs.declared.Kind.TheVariants.{Lines, Rules, Classes, Roles}
+use Rattle.sheet.specs.declared.Refusal.{Refusal}
 use Rattle.sheet.specs.declared.Section.{Section}
 use Rattle.sheet.specs.declared.Sheet.{Sheet}
-use Rattle.sheet.specs.declared.Outcome.{Outcome}
-use Rattle.sheet.specs.declared.Outcome.TheVariants.{Accepted, Refused as refused_outcome}
+-- the numbers of an entry; those that it does not have are 0
+pub use Rattle.sheet.specs.declared.Entry.{Entry as Triple}
 
 -- document 01's numbers 1 to 8
 abbrev pub reason_number : Reason → ℕ
@@ -38,29 +44,22 @@ operand_count (suc (suc (suc (suc (suc (suc (suc zero))))))) = 2
 operand_count (suc (suc (suc (suc (suc (suc (suc (suc k)))))))) = 0
 
 -- ---- entries and sections
--- the numbers of an entry; those that it does not have are 0
-pub record Triple : Type 0 where
-  pub first : ℕ
-  pub second : ℕ
-  pub third : ℕ
-
 abbrev pub triple : ℕ → ℕ → ℕ → Triple
 triple a b c = record { first = a; second = b; third = c }
 
 -- zeros behind the entries
-unfoldable pub padded : List ℕ → List ℕ
-padded xs = xs ++ replicate (most_lines - length xs) 0
+unfoldable pub padded : List Triple → List Triple
+padded ts = ts ++ replicate (most_lines - length ts) (triple 0 0 0)
 
 unfoldable pub section_form : List Triple → Section
-section_form ts = record {
-  first = padded (map (λ (t : Triple). t.first) ts);
-  second = padded (map (λ (t : Triple). t.second) ts);
-  third = padded (map (λ (t : Triple). t.third) ts);
-  count = length ts;
-}
+section_form ts = record { entries = padded ts; count = length ts }
+
+-- entry i
+abbrev pub entry_of : Section → ℕ → Triple
+entry_of s i = get_or s.entries i (triple 0 0 0)
 
 unfoldable pub triples : Section → List Triple
-triples s = map (λ i. triple (get_or s.first i 0) (get_or s.second i 0) (get_or s.third i 0)) (up_to s.count)
+triples s = map (entry_of s) (up_to s.count)
 
 -- ---- a line, a rule, an assertion from its numbers, and the other way
 -- a kind of 7 or more is `only`, as in `operands_at`
@@ -68,7 +67,7 @@ abbrev pub line_from : ℕ → ℕ → ℕ → Line
 line_from zero a b = top
 line_from (suc zero) a b = bottom
 line_from (suc (suc zero)) a b = name a
-line_from (suc (suc (suc zero))) a b = not a
+line_from (suc (suc (suc zero))) a b = negation a
 line_from (suc (suc (suc (suc zero)))) a b = and a b
 line_from (suc (suc (suc (suc (suc zero))))) a b = or a b
 line_from (suc (suc (suc (suc (suc (suc zero)))))) a b = some a b
@@ -81,7 +80,7 @@ abbrev pub line_triple : Line → Triple
 line_triple top = triple 0 0 0
 line_triple bottom = triple 1 0 0
 line_triple (name a) = triple 2 a 0
-line_triple (not i) = triple 3 i 0
+line_triple (negation i) = triple 3 i 0
 line_triple (and i j) = triple 4 i j
 line_triple (or i j) = triple 5 i j
 line_triple (some r i) = triple 6 r i
@@ -144,11 +143,8 @@ form_of s = record {
   roles = section_form (map role_triple s.roles);
 }
 
-abbrev pub empty_sheet : theory.Sheet
-empty_sheet = record { lines = []; rules = []; individuals = 0; classes = []; roles = [] }
-
 -- ---- readings
--- what an outcome says of a value that was read from n bytes: an accepted sheet is read to its end
-abbrev pub outcome_read : {A : Type 0} → A → ℕ → Outcome → Read A
-outcome_read a n Accepted = taken a n
-outcome_read a n (refused_outcome why p) = refused (reason_number why) p
+-- what a value with the place behind it, or the refusal, says of a reading
+abbrev pub reading_of : {A : Type 0} → Result (A × ℕ) Refusal → Read A
+reading_of (Ok v) = taken v.0 v.1
+reading_of (Err r) = refused (reason_number r.why) r.at

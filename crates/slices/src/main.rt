@@ -3,60 +3,31 @@
 #![tactic(auto)]
 
 use reader::read_sheet;
-use sheet::Outcome;
+use sheet::reason_number;
 
-// Nine numbers, at four places each.
-const SLOTS: usize = 36;
+// How often each of the numbers 0 to 8 came at each of the places 0 to 3; 0 is for what is accepted.
+type Times = [[u64; 4]; 9];
 
-// The slot of what the reader says of a string; the first is for what is accepted.
-fn slot_of(s: &[u8]) -> usize {
-    let read = read_sheet(s);
-    let outcome = read.outcome;
-    match outcome {
-        Outcome::Accepted => 0,
-        Outcome::Refused(why, at) => {
-            let number = sheet::reason_number(why);
-            if number < 9 {
-                if at < 4 {
-                    return (number as usize) * 4 + at;
-                }
-            }
-            0
-        }
-    }
-}
-
-fn count(times: &mut [u64; SLOTS], s: &[u8]) {
-    let slot = slot_of(s);
-    if slot < SLOTS {
-        times[slot] = times[slot].wrapping_add(1);
+// What the reader says of a string, once more.
+fn count(times: &mut Times, s: &[u8]) {
+    let (number, place) = match read_sheet(s) {
+        Ok(_) => (0, 0),
+        Err(refusal) => (reason_number(refusal.why) as usize, refusal.at),
+    };
+    if number < 9 && place < 4 {
+        times[number][place] = times[number][place].wrapping_add(1);
     }
 }
 
 // All strings of two bytes that begin with this one.
-fn count_pairs(times: &mut [u64; SLOTS], first: u8) {
+fn count_pairs(times: &mut Times, first: u8) {
     for second in 0..=u8::MAX {
         count(times, &[first, second]);
     }
 }
 
-// A write that fails is let go.
-fn print_slot(rt: &impl Print, slot: usize, times: u64) {
-    if times != 0 {
-        let number = slot / 4;
-        let place = slot % 4;
-        let _ = println!(rt; "{number} {place} {times}");
-    }
-}
-
-fn print_all(rt: &impl Print, times: &[u64; SLOTS]) {
-    for slot in 0..SLOTS {
-        print_slot(rt, slot, times[slot]);
-    }
-}
-
 // The empty string, all of one byte, and all of two.
-fn count_all(times: &mut [u64; SLOTS]) {
+fn count_all(times: &mut Times) {
     count(times, &[]);
     for first in 0..=u8::MAX {
         count(times, &[first]);
@@ -64,8 +35,19 @@ fn count_all(times: &mut [u64; SLOTS]) {
     }
 }
 
+// What never came is left out; a write that fails is let go.
+fn print_all(rt: &impl Print, times: &Times) {
+    for (number, places) in times.iter().enumerate() {
+        for (place, count) in places.iter().enumerate() {
+            if *count != 0 {
+                let _ = println!(rt; "{number} {place} {count}");
+            }
+        }
+    }
+}
+
 fn main(rt: HostRuntime) {
-    let mut times = [0u64; SLOTS];
+    let mut times = [[0; 4]; 9];
     count_all(&mut times);
     print_all(&rt, &times);
 }

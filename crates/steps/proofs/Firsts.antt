@@ -1,48 +1,22 @@
--- The first that passes: over a range, place by place; and over the moves of an individual, which are the demands of its label, one for one.
-use Prim.Native.Nat.{ℕ, suc, ◌+◌, ◌-◌, ◌≤◌, ◌<◌}
-use mathlib.Core.Bool.{Bool, true, false, true≢false, false≢true}
-use mathlib.Core.Path.{◌≡◌, refl, sym, ◌∙◌, ap}
-use mathlib.Core.List.{List, [], ◌∷◌, ◌++◌, map}
-use native.Mathlib.Numerals.{add-one}
-use native.Mathlib.Omega.{arith}
-use Rattle.alc.specs.Lists.{Maybe, nothing, just, first, each, from, up_to}
-use Rattle.alc.specs.Sheet.{Rule, Sheet, count}
+-- The first that passes over the moves of an individual, which are the demands of its label, one for one.
+use Rattle.std.specs.Prelude.{ℕ, Bool, true, false, ◌≡◌, refl, List, [], ◌∷◌, ◌++◌, map}
+use Rattle.std.proofs.lemmas.Bool.{false≢true}
+use Rattle.std.proofs.Common.{true≢false, ap}
+use Rattle.std.specs.Prelude.{Option as Maybe, None as nothing, Some as just}
+use Rattle.alc.specs.Lists.{first, each, up_to}
+use Rattle.alc.specs.declared.Rule.{Rule}
+use Rattle.alc.specs.Sheet.{Sheet, count}
 use Rattle.alc.specs.declared.Mark.TheVariants.{Holds as holds, Fails as fails}
 use Rattle.alc.specs.Label.{Demand, either}
 use Rattle.alc.specs.Settle.{Joint, label, Move, own, rule, moves_of, who, wanted, adds}
 use Rattle.steps.specs.Choice.{demands_at, line_demands, rule_demands, unmet}
-use Rattle.steps.proofs.Chosen.{or_else, first-append}
+use Rattle.steps.proofs.Chosen.{or_else}
 
 module _ {A : Type 0} where
   -- the second counts only where the first has none
   pub or-found : (o n : Maybe A) → (o ≡ nothing → ⊥) → or_else o n ≡ o
   or-found nothing n h = absurd (h refl)
   or-found (just x) n h = refl
-
--- ---- the loop over a range: what is left to look at, from a on, is the whole
-pub record Ranging {A : Type 0} (p : A → Bool) (f : ℕ → List A) (n a : ℕ) : Type 0 where
-  pub within : a ≤ n
-  pub rest : first p (each f (from a (n - a))) ≡ first p (each f (up_to n))
-
-module _ {A : Type 0} (p : A → Bool) (f : ℕ → List A) (n : ℕ) where
-  pub range-start : Ranging p f n 0
-  range-start = let all_left : n - 0 ≡ n = omega arith in record { within = omega arith; rest = ap (λ (k : ℕ). first p (each f (from 0 k))) all_left }
-
-  module _ (a : ℕ) (g : Ranging p f n a) where
-    pub range-end : n ≤ a → nothing ≡ first p (each f (up_to n))
-    range-end h = let none_left : n - a ≡ 0 = omega arith in sym (ap (λ (k : ℕ). first p (each f (from a k))) none_left) ∙ g.rest
-
-    module _ (h : a < n) where
-      turned : or_else (first p (f a)) (first p (each f (from (suc a) (n - suc a)))) ≡ first p (each f (up_to n))
-      turned =
-          let one_less : n - a ≡ suc (n - suc a) = omega arith in
-          sym (first-append p (f a) (each f (from (suc a) (n - suc a)))) ∙ sym (ap (λ (k : ℕ). first p (each f (from a k))) one_less) ∙ g.rest
-
-      pub range-on : first p (f a) ≡ nothing → Ranging p f n (a + 1)
-      range-on e = rw add-one (record { within = omega arith; rest = rw e at turned })
-
-      pub range-found : (first p (f a) ≡ nothing → ⊥) → first p (f a) ≡ first p (each f (up_to n))
-      range-found e = sym (or-found (first p (f a)) (first p (each f (from (suc a) (n - suc a)))) e) ∙ turned
 
 -- ---- the moves of an individual and the demands of its label
 module _ (s : Sheet) (J : Joint) (a : ℕ) where

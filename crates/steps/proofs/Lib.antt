@@ -1,3 +1,3 @@
 pub mod Chosen
-pub mod Firsts
 pub mod Demands
+pub mod Firsts

@@ -1,36 +1,27 @@
--- Records in a buffer: a label is found by its word, what it means that a buffer has grown, which records stand; and the loops over the seeds of a settled label.
-use Rattle.std.proofs.Common.{◌≡◌, ℕ, zero, suc, ◌+◌, ◌-◌, ◌/◌, ◌%◌, ◌^◌, ◌<◌, ◌≤◌, Bool, true, false, cond, ◌&&◌, ◌||◌, eqb, ltb, List, [], ◌∷◌, ◌++◌, map, length, get_or, take, set, sym, refl, ap, ◌∙◌, subst, ⊎_elim, add-one, arith, length-append, length-set, length-take-le, get_or-take, take-suc-set, ltb-true, lt-ltb, eq-eqb, ne_eqb, eqb-true}
-use mathlib.Core.Bool.{and-true, and_assoc}
-use mathlib.Core.Path.{fun_ext}
+-- Records in a buffer: a label is found by its word, what it means that a buffer has grown, which records stand. Assumes nothing.
+use Rattle.std.proofs.Common.{◌≡◌, ℕ, zero, suc, ◌+◌, ◌/◌, ◌%◌, ◌<◌, ◌≤◌, Bool, true, false, ◌&&◌, cond, eqb, ltb, List, [], ◌∷◌, ◌++◌, map, length, get_or, take, set, Result, Ok, Err, sym, refl, ap, ◌∙◌, subst, ⊎_elim, add-one, arith, length-append, length-set, length-take-le, get_or-take, take-suc-set, ltb-true, ltb-false, eq-eqb, eqb-true}
+use Rattle.std.specs.Prelude.{None as nothing, Some as just}
+use Rattle.std.specs.List.{position_or_len, list_all}
+use Rattle.std.specs.Option.{is_some}
+use Rattle.std.specs.Result.{IsErr}
+use Rattle.std.proofs.lemmas.List.Sums.{position_or_len_is}
+use Rattle.std.proofs.lemmas.Bool.{false_from_ne_true}
 use mathlib.Core.List.Memᴰ
 use mathlib.Core.List.{map-append}
 use lib.ListN.{length-map, get_or-map}
-use lib.Bits.{bit_and, bit_or}
 use borrow.Author.Tests.{eqb-false}
-use Rattle.alc.specs.Bits.{members}
-use Rattle.alc.specs.Lists.{all, ◌∈◌, Distinct, filter, each, up_to}
-use Rattle.alc.specs.Sheet.{Line, top, bottom, name, not, and, or, some, only, Sheet, count, line}
+use Rattle.alc.specs.Lists.{◌∈◌, all, Distinct, filter, up_to}
+use Rattle.alc.specs.declared.Ask.{Ask}
 use Rattle.alc.specs.declared.Label.{Label}
-use Rattle.alc.specs.declared.Mark.TheVariants.{Holds as holds, Fails as fails}
-use Rattle.alc.specs.Label.{has}
 use Rattle.alc.specs.Settle.{label}
-use Rattle.alc.specs.Seeds.{Ask, asks_of, asks, seeds, include, include_all, among, served, is_quantified}
-use Rattle.alc.proofs.Theorems.Lists.{cases, and_both, and_left, and_right, tests_same, filter-intro, filter-elim, up_to-intro, up_to-elim, same?}
-use Rattle.alc.proofs.Theorems.Members.{members-none, Inside, lowest-of, rest_of, rest-each, rest-inside}
+use Rattle.alc.specs.Seeds.{include, include_all, among}
+use Rattle.alc.proofs.Theorems.Lists.{cases, tests_same, filter-intro, filter-elim, up_to-intro, up_to-elim, same?}
 use Rattle.alc.proofs.Theorems.Moves.{label-of, label-in}
 use Rattle.alc.proofs.Theorems.Seeds.{among_in, among-true}
-use Rattle.alc.proofs.Theorems.Reach.{include-step, include_all-append}
-use Rattle.tableau.specs.declared.records.Grown.{Grown}
-use Rattle.tableau.specs.declared.records.Grown.TheVariants.{Full, Used}
-use Rattle.seeds.specs.declared.Asked.{Asked}
-use Rattle.seeds.specs.declared.Asked.TheVariants.{Nothing, Seed}
-use Rattle.tableau.specs.Records.{word_of, label_of, recorded, place_from, found_at, GrownTo}
-use Rattle.plan.specs.Plan.{plan_sheet, Prepared}
-use Rattle.seeds.specs.Asks.{asked_of, asked_at}
-use Rattle.tableau.specs.Walks.{standing, seeds_asked}
-use Rattle.plan.proofs.Lines.{lines_fit}
-use Rattle.plan.proofs.Walking.{each-inside, marked-bit, marked-inside}
-use Rattle.seeds.proofs.Handing.{unmarked}
+use Rattle.alc.proofs.Theorems.Reach.{include-step}
+use Rattle.tableau.specs.declared.records.Full.{Full}
+use Rattle.tableau.specs.Records.{word_of, label_of, recorded, place_from, found_at, found, GrownTo}
+use Rattle.tableau.specs.Walks.{Lent, standing}
 
 -- ---- labels and words
 pub label-word : (l : Label) → l.holding < 4294967296 → label_of (word_of l) ≡ l
@@ -44,24 +35,6 @@ word-label w = omega arith
 
 -- ---- the search for a word
 module _ (buf : List ℕ) (w : ℕ) where
-  pub place-start : (used : ℕ) → place_from buf w 0 (used - 0) ≡ found_at buf used w
-  unfolding found_at
-  place-start used = let e : used - 0 ≡ used = omega arith in ap (place_from buf w 0) e
-
-  pub place_end : (used i : ℕ) → i ≤ used → used ≤ i → used ≡ place_from buf w i (used - i)
-  place_end used i h g = let e : used - i ≡ 0 = omega arith in rw e (omega arith)
-
-  -- a turn of the search: it is at place i, or to be looked for behind it
-  module _ (used i : ℕ) (i< : i < used) where
-    left : used - i ≡ suc (used - (i + 1))
-    left = omega arith
-
-    pub place_here : get_or buf i 0 ≡ w → place_from buf w i (used - i) ≡ i
-    place_here e = rw (left, eq-eqb (get_or buf i 0) w e, place_from)
-
-    pub place-next : (get_or buf i 0 ≡ w → ⊥) → place_from buf w i (used - i) ≡ place_from buf w (i + 1) (used - (i + 1))
-    place-next e = rw (left, ne_eqb (get_or buf i 0) w e, place_from, add-one i)
-
   -- what is found is there, and nothing stands before it
   place-has : (i k : ℕ) → place_from buf w i k < i + k → get_or buf (place_from buf w i k) 0 ≡ w
   place-has i zero h = absurd (omega arith)
@@ -82,6 +55,54 @@ module _ (buf : List ℕ) (w : ℕ) where
       (λ q. place-before (suc i) k j (omega arith) (omega arith) e)
       (same? i j)))
       (cases (eqb (get_or buf i 0) w))
+
+  place-most : (i k : ℕ) → place_from buf w i k ≤ i + k
+  place-most i zero = omega arith
+  place-most i (suc k) =
+      ⊎_elim
+      (λ (e : eqb (get_or buf i 0) w ≡ true). rw (e, place_from) (omega arith))
+      (λ (e : eqb (get_or buf i 0) w ≡ false). rw (e, place_from) (omega (arith, place-most (suc i) k)))
+      (cases (eqb (get_or buf i 0) w))
+
+  module _ (used : ℕ) (fits : used ≤ length buf) where
+    -- std's search among the first `used` finds that place
+    pub place-is : position_or_len (λ x. eqb x w) (take used buf) ≡ found_at buf used w
+    unfolding found_at
+    place-is =
+        let size : length (take used buf) ≡ used = length-take-le used buf fits in
+        let p = place_from buf w 0 used in
+        position_or_len_is (λ x. eqb x w) (take used buf) p 0 (omega (arith, place-most 0 used))
+        (λ k h. false_from_ne_true (eqb (get_or (take used buf) k 0) w) (λ e.
+        let k< : k < used = omega (arith, place-most 0 used) in
+        let q : get_or buf k 0 ≡ w = sym (get_or-take used buf k 0 k<) ∙ eqb-true (get_or (take used buf) k 0) w e in
+        omega (arith, place-before 0 used k (omega arith) (omega arith) q)))
+        (λ h. let p< : p < used = omega arith in eq-eqb (get_or (take used buf) p 0) w (get_or-take used buf p 0 p< ∙ place-has 0 used (omega arith)))
+
+    pub found-is : found buf used w ≡ cond (ltb (found_at buf used w) used) (just (found_at buf used w)) nothing
+    found-is = rw (place-is, length-take-le used buf fits) refl
+
+    pub found_some-is : is_some (found buf used w) ≡ ltb (found_at buf used w) used
+    found_some-is =
+        rw found-is (⊎_elim (λ (t : ltb (found_at buf used w) used ≡ true). rw t refl) (λ (t : ltb (found_at buf used w) used ≡ false). rw t refl) (cases (ltb (found_at buf used w) used)))
+
+    -- what is found, and that nothing is
+    pub found-some : (i : ℕ) → found buf used w ≡ just i → (found_at buf used w ≡ i) × (i < used)
+    found-some i f =
+        let e = sym found-is ∙ f in
+        ⊎_elim
+        (λ (t : ltb (found_at buf used w) used ≡ true). let q : just (found_at buf used w) ≡ just i = rw t at e in
+        let r : found_at buf used w ≡ i = cc in (r, omega (arith, ltb-true (found_at buf used w) used t)))
+        (λ (t : ltb (found_at buf used w) used ≡ false). let q : nothing ≡ just i = rw t at e in cc)
+        (cases (ltb (found_at buf used w) used))
+
+    pub found-none : found buf used w ≡ nothing → found_at buf used w ≡ used
+    unfolding found_at
+    found-none f =
+        let e = sym found-is ∙ f in
+        ⊎_elim
+        (λ (t : ltb (place_from buf w 0 used) used ≡ true). let q : just (place_from buf w 0 used) ≡ nothing = rw t at e in cc)
+        (λ (t : ltb (place_from buf w 0 used) used ≡ false). omega (arith, ltb-false (place_from buf w 0 used) used t, place-most 0 used))
+        (cases (ltb (place_from buf w 0 used) used))
 
 -- ---- the records of a buffer
 pub length-recorded : (used : ℕ) (buf : List ℕ) → used ≤ length buf → length (recorded used buf) ≡ used
@@ -122,22 +143,27 @@ include_all-length C (l ∷ ls) =
     (include-step C l)
 
 -- the buffer as it is
-pub grown-none : (used : ℕ) (buf : List ℕ) → used ≤ length buf → GrownTo (recorded used buf) buf (Used used) buf
+pub grown-none : (used : ℕ) (buf : List ℕ) → used ≤ length buf → GrownTo (recorded used buf) buf (Ok used) buf
 grown-none used buf h = record { size = refl; holds = (sym (length-recorded used buf h), h, refl) }
 
 -- what was too much stays too much
-pub grown-full : (D more : List Label) (before after : List ℕ) → GrownTo D before Full after → GrownTo (include_all D more) before Full after
-grown-full D more before after g = record { size = g.size; holds = omega (arith, include_all-length D more, g.holds) }
+pub grown-full : (D more : List Label) (before after : List ℕ) (e : Full) → GrownTo D before (Err e) after → GrownTo (include_all D more) before (Err e) after
+grown-full D more before after e g = record { size = g.size; holds = omega (arith, include_all-length D more, g.holds) }
+
+-- by whatever error it is told
+pub grown-err : (D : List Label) (before after : List ℕ) (d : Full) (r : Result ℕ Full) → IsErr r → GrownTo D before (Err d) after → GrownTo D before r after
+grown-err D before after d (Ok n) h g = cc
+grown-err D before after d (Err e) h g = record { size = g.size; holds = g.holds }
 
 -- one after the other
-pub grown-more : (D more : List Label) (n : ℕ) (before mid after : List ℕ) (r : Grown)
-    → GrownTo D before (Used n) mid → GrownTo (include_all (recorded n mid) more) mid r after → GrownTo (include_all D more) before r after
+pub grown-more : (D more : List Label) (n : ℕ) (before mid after : List ℕ) (r : Result ℕ Full)
+    → GrownTo D before (Ok n) mid → GrownTo (include_all (recorded n mid) more) mid r after → GrownTo (include_all D more) before r after
 grown-more D more n before mid after r g h =
     subst (λ (C : List Label). GrownTo (include_all C more) before r after) g.holds.2 (record { size = h.size ∙ g.size; holds = h.holds })
 
 -- one label more, found or not
 module _ (used : ℕ) (buf : List ℕ) (fits : used ≤ length buf) (l : Label) (h : l.holding < 4294967296) where
-  pub grown-found : found_at buf used (word_of l) < used → GrownTo (include (recorded used buf) l) buf (Used used) buf
+  pub grown-found : found_at buf used (word_of l) < used → GrownTo (include (recorded used buf) l) buf (Ok used) buf
   grown-found g =
       ⊎_elim
       (λ t. rw t.1 (grown-none used buf fits))
@@ -150,7 +176,7 @@ module _ (used : ℕ) (buf : List ℕ) (fits : used ≤ length buf) (l : Label) 
   longer : length (recorded used buf ++ (l ∷ [])) ≡ used + 1
   longer = length-append (recorded used buf) (l ∷ []) ∙ omega (arith, length-recorded used buf fits)
 
-  pub grown-new : used ≤ found_at buf used (word_of l) → used < length buf → GrownTo (include (recorded used buf) l) buf (Used (used + 1)) (set buf used (word_of l))
+  pub grown-new : used ≤ found_at buf used (word_of l) → used < length buf → GrownTo (include (recorded used buf) l) buf (Ok (used + 1)) (set buf used (word_of l))
   grown-new g b = rw (missing g) (record {
     size = length-set buf used (word_of l);
     holds = (
@@ -160,8 +186,33 @@ module _ (used : ℕ) (buf : List ℕ) (fits : used ≤ length buf) (l : Label) 
     );
   })
 
-  pub grown-over : used ≤ found_at buf used (word_of l) → length buf ≤ used → GrownTo (include (recorded used buf) l) buf Full buf
-  grown-over g b = rw (missing g) (record { size = refl; holds = omega (arith, longer) })
+  pub grown-over : used ≤ found_at buf used (word_of l) → length buf ≤ used → (e : Full) → GrownTo (include (recorded used buf) l) buf (Err e) buf
+  grown-over g b e = rw (missing g) (record { size = refl; holds = omega (arith, longer) })
+
+-- ---- a loop that includes labels: what is left to include, more, is the whole
+pub record Including (whole : List Label) (start : ℕ) (before : List ℕ) (more : List Label) (used : ℕ) (buf : List ℕ) : Type 0 where
+  pub size : length buf ≡ length before
+  pub fits : used ≤ length buf
+  pub rest : include_all (recorded used buf) more ≡ include_all (recorded start before) whole
+
+module _ {whole : List Label} {start : ℕ} {before : List ℕ} {more : List Label} {used : ℕ} {buf : List ℕ} (g : Including whole start before more used buf) where
+  pub included : more ≡ [] → GrownTo (include_all (recorded start before) whole) before (Ok used) buf
+  included e =
+      let all_in : recorded used buf ≡ include_all (recorded start before) whole = ap (include_all (recorded used buf)) (sym e) ∙ g.rest in
+      rw (← all_in) (record { size = g.size; holds = (grown-none used buf g.fits).holds })
+
+  module _ {l : Label} {rest : List Label} (next : more ≡ l ∷ rest) (after : List ℕ) where
+    pub include-on : (n : ℕ) → GrownTo (include (recorded used buf) l) buf (Ok n) after → Including whole start before rest n after
+    include-on n t = record {
+      size = t.size ∙ g.size;
+      fits = t.holds.1;
+      rest = ap (λ (C : List Label). include_all C rest) t.holds.2 ∙ ap (include_all (recorded used buf)) (sym next) ∙ g.rest;
+    }
+
+    pub include-full : (e : Full) → GrownTo (include (recorded used buf) l) buf (Err e) after → GrownTo (include_all (recorded start before) whole) before (Err e) after
+    include-full e t =
+        let u = grown-full (include (recorded used buf) l) rest buf after e t in
+        rw (← (ap (include_all (recorded used buf)) (sym next) ∙ g.rest)) (record { size = t.size ∙ g.size; holds = u.holds })
 
 -- ---- the records that stand
 module _ (used : ℕ) (recs marks : List ℕ) where
@@ -185,159 +236,27 @@ distinct-place (l ∷ C) d (suc i) zero h g e = absurd (d.0 (Memᴰ.cast (sym e)
 distinct-place (l ∷ C) d (suc i) (suc j) h g e = ap suc (distinct-place C d.1 i j (omega arith) (omega arith) e)
 
 -- a label stands exactly if its word is found where the mark is 0
-module _ (used : ℕ) (recs marks : List ℕ) (fits : used ≤ length recs) (d : Distinct (recorded used recs)) (q : Label) (h : q.holding < 4294967296) where
-  pub stands : all (λ k. among k (standing used recs marks)) (q ∷ []) ≡ (ltb (found_at recs used (word_of q)) used && eqb (get_or marks (found_at recs used (word_of q)) 0) 0)
-  stands =
-      let p = found_at recs used (word_of q) in
-      let size = length-recorded used recs fits in
-      and-true (among q (standing used recs marks))
-      ∙ tests_same (among q (standing used recs marks)) (ltb p used && eqb (get_or marks p 0) 0)
-      (λ e. let (i, i<, z, w) = in-stands used recs marks q (among-true q (standing used recs marks) e) in
-      let there : label (recorded used recs) i ≡ q = record-at used recs i i< ∙ w in
-      let p< : p < used = in-found recs used fits q (Memᴰ.cast (sym there) (label-in (recorded used recs) i (omega arith))) in
-      let one : i ≡ p = distinct-place (recorded used recs) d i p (omega arith) (omega arith) (there ∙ sym (record-at used recs p p< ∙ found-label recs used fits q h p<)) in
-      and_both (ltb p used) (eqb (get_or marks p 0) 0) (lt-ltb p used p<) (subst (λ (x : ℕ). eqb (get_or marks x 0) 0 ≡ true) one z))
-      (λ e. let p< : p < used = ltb-true p used (and_left (ltb p used) (eqb (get_or marks p 0) 0) e) in
-      among_in q (standing used recs marks)
-      (Memᴰ.cast (sym (found-label recs used fits q h p<)) (stands-in used recs marks p p< (and_right (ltb p used) (eqb (get_or marks p 0) 0) e))))
+module _ {used : ℕ} {recs marks : List ℕ} (lent : Lent used recs marks) (q : Label) (h : q.holding < 4294967296) where
+  pub stands-at : (p : ℕ) → found recs used (word_of q) ≡ just p → eqb (get_or marks p 0) 0 ≡ among q (standing used recs marks)
+  stands-at p f =
+      let (e, p<) = found-some recs (word_of q) used lent.enough p f in
+      let size = length-recorded used recs lent.enough in
+      let there : label_of (get_or recs p 0) ≡ q = ap (λ (x : ℕ). label_of (get_or recs x 0)) (sym e) ∙ found-label recs used lent.enough q h (omega (arith, e)) in
+      tests_same (eqb (get_or marks p 0) 0) (among q (standing used recs marks))
+      (λ t. among_in q (standing used recs marks) (Memᴰ.cast (sym there) (stands-in used recs marks p p< t)))
+      (λ t. let (i, i<, z, w) = in-stands used recs marks q (among-true q (standing used recs marks) t) in
+      let one : i ≡ p = distinct-place (recorded used recs) lent.distinct i p (omega arith) (omega arith) (record-at used recs i i< ∙ w ∙ sym (record-at used recs p p< ∙ there)) in
+      subst (λ (x : ℕ). eqb (get_or marks x 0) 0 ≡ true) one z)
 
--- ---- the seeds of a settled label, line by line
-abbrev pub seeds_at : Sheet → Label → ℕ → List Label
-seeds_at s l i = seeds_asked (asked_at s l i)
+  pub stands-not : found recs used (word_of q) ≡ nothing → false ≡ among q (standing used recs marks)
+  stands-not f =
+      sym (false_from_ne_true (among q (standing used recs marks)) (λ t.
+      let (i, i<, z, w) = in-stands used recs marks q (among-true q (standing used recs marks) t) in
+      let size = length-recorded used recs lent.enough in
+      let m : q ∈ recorded used recs = Memᴰ.cast (sym (record-at used recs i i< ∙ w)) (label-in (recorded used recs) i (omega arith)) in
+      omega (arith, in-found recs used lent.enough q m, found-none recs (word_of q) used lent.enough f)))
 
-abbrev seed_in : Ask → Label
-seed_in q = q.seed
-
--- a line asks for one seed at most: so f of what it asks for is g of it as the code has it
-module _ {B : Type 0} (f : Ask → B) (g : Asked → List B) (none : g Nothing ≡ []) (one : (q : Ask) → g (Seed q.role q.seed) ≡ f q ∷ []) where
-  one-ask : (b : Bool) (q : Ask) → g (asked_of (cond b (q ∷ []) [])) ≡ map f (cond b (q ∷ []) [])
-  one-ask true q = one q
-  one-ask false q = none
-
-  asks-once : (s : Sheet) (l : Label) (h m : Bool) (c : Line) → g (asked_of (asks_of s l h m c)) ≡ map f (asks_of s l h m c)
-  asks-once s l h m top = none
-  asks-once s l h m bottom = none
-  asks-once s l h m (name a) = none
-  asks-once s l h m (not i) = none
-  asks-once s l h m (and i j) = none
-  asks-once s l h m (or i j) = none
-  asks-once s l h m (some r i) = one-ask h _
-  asks-once s l h m (only r i) = one-ask m _
-
--- and for none, unless it is a some or only line with a mark
-unasked : (s : Sheet) (l : Label) (h f : Bool) (c : Line) → ((h || f) && is_quantified c) ≡ false → asks_of s l h f c ≡ []
-unasked s l h f top e = refl
-unasked s l h f bottom e = refl
-unasked s l h f (name a) e = refl
-unasked s l h f (not i) e = refl
-unasked s l h f (and i j) e = refl
-unasked s l h f (or i j) e = refl
-unasked s l h f (some r i) e = rw (unmarked h f e).0
-unasked s l h f (only r i) e = rw (unmarked h f e).1
-
-module _ {A B C : Type 0} where
-  pub map_each : (f : B → C) (g : A → List B) (xs : List A) → map f (each g xs) ≡ each (λ x. map f (g x)) xs
-  map_each f g [] = refl
-  map_each f g (x ∷ xs) = map-append f (g x) (each g xs) ∙ ap (λ (r : List C). map f (g x) ++ r) (map_each f g xs)
-
-module _ {p : List ℕ} (l : Label) (pre : Prepared p) (h< : l.holding < 2 ^ 32) (f< : l.failing < 2 ^ 32) where
-  abbrev pub asking : ℕ
-  asking = bit_and (bit_or l.holding l.failing) (get_or p 390 0)
-
-  pub asking-inside : Inside (count (plan_sheet p)) asking
-  asking-inside = marked-inside (plan_sheet p) l h< f< is_quantified refl (get_or p 390 0) pre.asking
-
-  -- what its some and only lines with a mark ask for is all that it asks for
-  pub asks-all : {B : Type 0} (f : Ask → B) (g : Asked → List B) → g Nothing ≡ [] → ((q : Ask) → g (Seed q.role q.seed) ≡ f q ∷ [])
-      → each (λ i. g (asked_at (plan_sheet p) l i)) (members 32 asking) ≡ map f (asks (plan_sheet p) l)
-  unfolding asked_at asks
-  asks-all {B} f g none one =
-      let s = plan_sheet p in
-      let asks_at : ℕ → List Ask = λ i. asks_of s l (has l (holds i)) (has l (fails i)) (line s i) in
-      each-inside (λ i. g (asked_at s l i)) (count s) asking (lines_fit pre) asking-inside
-      (λ i b e. ap (λ (qs : List Ask). g (asked_of qs)) (unasked s l (has l (holds i)) (has l (fails i)) (line s i)
-      (sym (marked-bit s l h< f< is_quantified refl (get_or p 390 0) pre.asking i) ∙ e)) ∙ none)
-      ∙ ap (λ (k : ℕ → List B). each k (up_to (count s))) (fun_ext (λ i. asks-once f g none one s l (has l (holds i)) (has l (fails i)) (line s i)))
-      ∙ sym (map_each f asks_at (up_to (count s)))
-
-  pub seeds-asked : each (seeds_at (plan_sheet p) l) (members 32 asking) ≡ seeds (plan_sheet p) l
-  seeds-asked = asks-all seed_in seeds_asked refl (λ q. refl)
-
--- ---- the loop that includes them: what is left to include is the whole
-pub record Including (p : List ℕ) (l : Label) (start : ℕ) (before : List ℕ) (used : ℕ) (buf : List ℕ) (left : ℕ) : Type 0 where
-  pub inside : Inside (count (plan_sheet p)) left
-  pub size : length buf ≡ length before
-  pub fits : used ≤ length buf
-  pub rest : include_all (recorded used buf) (each (seeds_at (plan_sheet p) l) (members 32 left)) ≡ include_all (recorded start before) (seeds (plan_sheet p) l)
-
-pub including : {p : List ℕ} (l : Label) → Prepared p → l.holding < 2 ^ 32 → l.failing < 2 ^ 32 → (start : ℕ) (before : List ℕ) → start ≤ length before
-    → Including p l start before start before (bit_and (bit_or l.holding l.failing) (get_or p 390 0))
-including l pre h< f< start before h = record {
-  inside = asking-inside l pre h< f<;
-  size = refl;
-  fits = h;
-  rest = ap (include_all (recorded start before)) (seeds-asked l pre h< f<);
-}
-
-module _ {p : List ℕ} {l : Label} {start : ℕ} {before : List ℕ} {used : ℕ} {buf : List ℕ} {left : ℕ} (g : Including p l start before used buf left) where
-  pub included : left ≡ 0 → GrownTo (include_all (recorded start before) (seeds (plan_sheet p) l)) before (Used used) buf
-  included e =
-      let none : each (seeds_at (plan_sheet p) l) (members 32 left) ≡ [] = ap (λ ms. each (seeds_at (plan_sheet p) l) ms) (ap (members 32) e ∙ members-none 32) in
-      let all_in : recorded used buf ≡ include_all (recorded start before) (seeds (plan_sheet p) l) = ap (include_all (recorded used buf)) (sym none) ∙ g.rest in
-      rw (← all_in) (record { size = g.size; holds = (grown-none used buf g.fits).holds })
-
-  module _ (h : 0 < left) where
-    turn : include_all (include_all (recorded used buf) (seeds_at (plan_sheet p) l (lowest-of left))) (each (seeds_at (plan_sheet p) l) (members 32 (rest_of left)))
-        ≡ include_all (recorded start before) (seeds (plan_sheet p) l)
-    turn =
-        sym (include_all-append (recorded used buf) (seeds_at (plan_sheet p) l (lowest-of left)) (each (seeds_at (plan_sheet p) l) (members 32 (rest_of left))))
-        ∙ ap (include_all (recorded used buf)) (sym (rest-each g.inside h (seeds_at (plan_sheet p) l)))
-        ∙ g.rest
-
-    module _ (after : List ℕ) (r : Grown) (t : GrownTo (include_all (recorded used buf) (seeds_at (plan_sheet p) l (lowest-of left))) buf r after) where
-      pub include-on : (n : ℕ) → r ≡ Used n → Including p l start before n after (rest_of left)
-      include-on n e =
-          let u = subst (λ (x : Grown). GrownTo (include_all (recorded used buf) (seeds_at (plan_sheet p) l (lowest-of left))) buf x after) e t in record {
-            inside = rest-inside g.inside h;
-            size = t.size ∙ g.size;
-            fits = u.holds.1;
-            rest = ap (λ (C : List Label). include_all C (each (seeds_at (plan_sheet p) l) (members 32 (rest_of left)))) u.holds.2 ∙ turn;
-          }
-
-      pub include-full : r ≡ Full → GrownTo (include_all (recorded start before) (seeds (plan_sheet p) l)) before Full after
-      include-full e =
-          let now = include_all (recorded used buf) (seeds_at (plan_sheet p) l (lowest-of left)) in
-          let u = grown-full now (each (seeds_at (plan_sheet p) l) (members 32 (rest_of left))) buf after (subst (λ (x : Grown). GrownTo now buf x after) e t) in
-          rw (← turn) (record { size = t.size ∙ g.size; holds = u.holds })
-
--- ---- the loop that looks for them: what is left to look for is the whole
-pub record Serving (p : List ℕ) (l : Label) (A : List Label) (left : ℕ) : Type 0 where
-  pub inside : Inside (count (plan_sheet p)) left
-  pub rest : all (λ q. among q A) (each (seeds_at (plan_sheet p) l) (members 32 left)) ≡ served (plan_sheet p) A l
-
-pub serving : {p : List ℕ} (l : Label) → Prepared p → l.holding < 2 ^ 32 → l.failing < 2 ^ 32 → (A : List Label)
-    → Serving p l A (bit_and (bit_or l.holding l.failing) (get_or p 390 0))
-serving l pre h< f< A = record { inside = asking-inside l pre h< f<; rest = ap (all (λ q. among q A)) (seeds-asked l pre h< f<) }
-
-module _ {A : Type 0} where
-  all_append : (p : A → Bool) (xs ys : List A) → all p (xs ++ ys) ≡ (all p xs && all p ys)
-  all_append p [] ys = refl
-  all_append p (x ∷ xs) ys = ap (λ (b : Bool). p x && b) (all_append p xs ys) ∙ sym (and_assoc (p x) (all p xs) (all p ys))
-
-module _ {p : List ℕ} {l : Label} {A : List Label} {left : ℕ} (g : Serving p l A left) where
-  pub served-all : left ≡ 0 → true ≡ served (plan_sheet p) A l
-  served-all e = sym (ap (λ ms. all (λ q. among q A) (each (seeds_at (plan_sheet p) l) ms)) (ap (members 32) e ∙ members-none 32)) ∙ g.rest
-
-  module _ (h : 0 < left) where
-    both : (all (λ q. among q A) (seeds_at (plan_sheet p) l (lowest-of left)) && all (λ q. among q A) (each (seeds_at (plan_sheet p) l) (members 32 (rest_of left))))
-        ≡ served (plan_sheet p) A l
-    both =
-        sym (all_append (λ q. among q A) (seeds_at (plan_sheet p) l (lowest-of left)) (each (seeds_at (plan_sheet p) l) (members 32 (rest_of left))))
-        ∙ ap (all (λ q. among q A)) (sym (rest-each g.inside h (seeds_at (plan_sheet p) l)))
-        ∙ g.rest
-
-    pub serve-on : all (λ q. among q A) (seeds_at (plan_sheet p) l (lowest-of left)) ≡ true → Serving p l A (rest_of left)
-    serve-on e = record { inside = rest-inside g.inside h; rest = rw e at both }
-
-    pub serve-fails : all (λ q. among q A) (seeds_at (plan_sheet p) l (lowest-of left)) ≡ false → false ≡ served (plan_sheet p) A l
-    serve-fails e = rw e at both
+-- std's test of all asks is the definition's of all seeds
+pub all-is : (p : Label → Bool) (qs : List Ask) → list_all (λ (q : Ask). p q.seed) qs ≡ all p (map (λ (q : Ask). q.seed) qs)
+all-is p [] = refl
+all-is p (q ∷ qs) = ap (λ (b : Bool). p q.seed && b) (all-is p qs)

@@ -4,7 +4,9 @@ use native.Mathlib.Nat.{add-mod}
 use mathlib.Core.List.Memᴰ
 use mathlib.Core.List.{map-append}
 use borrow.Author.Tests.{not-true}
-use Rattle.alc.specs.Lists.{◌∈◌, Maybe, nothing, just, first, each}
+use Rattle.std.specs.Bool.{then_some}
+use Rattle.std.specs.Prelude.{Option as Maybe, None as nothing, Some as just}
+use Rattle.alc.specs.Lists.{◌∈◌, first, each}
 use Rattle.alc.specs.Sheet.{Sheet, count}
 use Rattle.alc.specs.declared.Label.{Label}
 use Rattle.alc.specs.declared.Mark.{Mark}
@@ -17,12 +19,11 @@ use Rattle.alc.proofs.Theorems.Moves.{moves-elim, add_all-has, add_all-keeps}
 use Rattle.alc.proofs.Theorems.Steps.{unset_in, unset-in-lt, DemandBelow, below-mono}
 use Rattle.alc.proofs.Theorems.Settle.{settle-law, wanted-below}
 use Rattle.steps.specs.declared.step.Choice.{Choice}
-use Rattle.steps.specs.declared.step.Choice.TheVariants.{Nothing, Every, Either}
+use Rattle.steps.specs.declared.step.Choice.TheVariants.{Every, Either}
 use Rattle.steps.specs.Choice.{line_demands, rule_demands, unmet, choice_of, choice}
-use Rattle.tableau.specs.Walks.{expand_by, picked_of}
-use Rattle.plan.specs.Plan.{plan_sheet, Prepared}
-use Rattle.tableau.specs.declared.walks.Picked.{Picked}
-use Rattle.tableau.specs.declared.walks.Picked.TheVariants.{Nothing as none, Found as picked}
+use Rattle.tableau.specs.Walks.{expand_by}
+use Rattle.plan.specs.declared.Plan.{Plan}
+use Rattle.plan.specs.Plan.{plan_sheet}
 use Rattle.plan.proofs.Lines.{lines_fit}
 use Rattle.steps.proofs.Firsts.{Meets, settled as all-met, meets, paired-moves, first-meets}
 use Rattle.seeds.proofs.Handing.{add_all-join}
@@ -32,10 +33,10 @@ use Rattle.steps.proofs.Chosen.{or_else, first-append}
 abbrev pub Fresh : ℕ → Label → Mark → Type 0
 Fresh n l m = (line_of m < n) × (unset_in n (add l m) < unset_in n l)
 
-abbrev pub FreshBy : ℕ → Label → Choice → Type 0
-FreshBy n l Nothing = Unit {0}
-FreshBy n l (Every marks) = unset_in n (join l marks) < unset_in n l
-FreshBy n l (Either m k) = Fresh n l m × Fresh n l k
+abbrev pub FreshBy : ℕ → Label → Maybe Choice → Type 0
+FreshBy n l nothing = Unit {0}
+FreshBy n l (just (Every marks)) = unset_in n (join l marks) < unset_in n l
+FreshBy n l (just (Either m k)) = Fresh n l m × Fresh n l k
 
 -- a measure t that falls
 falls-to : (n t : ℕ) (l x r : Label) → unset_in n l ≡ t → unset_in n x < unset_in n l → r ≡ x → unset_in n r < t
@@ -112,98 +113,80 @@ module _ (s : Sheet) (l : Label) where
             (ap (λ a. met (label alone a) (wanted s alone m)) (sym q) ∙ not-true _ e)
 
 -- ---- over a plan, by the choice k that the code has made
-module _ {p : List ℕ} (ready : Prepared p) (l : Label) (k : Choice) (chosen : k ≡ choice (plan_sheet p) l) where
+module _ (p : Plan) (l : Label) (k : Maybe Choice) (chosen : k ≡ choice (plan_sheet p) l) where
   pub chosen-fresh : FreshBy 32 l k
-  chosen-fresh = rw chosen (choice-fresh (plan_sheet p) l (well-formed (plan_sheet p) ready.well) 32 (lines_fit ready))
+  chosen-fresh = rw chosen (choice-fresh (plan_sheet p) l (well-formed (plan_sheet p) p.prepared.well) 32 (lines_fit p))
 
   pub chosen-expands : clashes (plan_sheet p) l ≡ false → expansions (plan_sheet p) l ≡ expand_by (plan_sheet p) l k
-  chosen-expands calm = choice-expands (plan_sheet p) l (well-formed (plan_sheet p) ready.well) calm ∙ ap (expand_by (plan_sheet p) l) (sym chosen)
+  chosen-expands calm = choice-expands (plan_sheet p) l (well-formed (plan_sheet p) p.prepared.well) calm ∙ ap (expand_by (plan_sheet p) l) (sym chosen)
 
 -- at every call of a walk the marks still unset fall below t, what they are at l
-module _ {p : List ℕ} (ready : Prepared p) (t : ℕ) (l : Label) (level : unset_in 32 l ≡ t) (r : Label) where
-  pub every-falls : {marks : Label} → Every marks ≡ choice (plan_sheet p) l → r ≡ join l marks → unset_in 32 r < t
-  every-falls {marks} e r-is = falls-to 32 t l _ r level (chosen-fresh ready l (Every marks) e) r-is
+module _ (p : Plan) (t : ℕ) (l : Label) (level : unset_in 32 l ≡ t) (r : Label) where
+  pub every-falls : {marks : Label} → just (Every marks) ≡ choice (plan_sheet p) l → r ≡ join l marks → unset_in 32 r < t
+  every-falls {marks} e r-is = falls-to 32 t l _ r level (chosen-fresh p l (just (Every marks)) e) r-is
 
-  pub first-falls : {m n : Mark} → Either m n ≡ choice (plan_sheet p) l → r ≡ add l m → unset_in 32 r < t
-  first-falls {m} {n} e r-is = falls-to 32 t l _ r level (chosen-fresh ready l (Either m n) e).0.1 r-is
+  pub first-falls : {m n : Mark} → just (Either m n) ≡ choice (plan_sheet p) l → r ≡ add l m → unset_in 32 r < t
+  first-falls {m} {n} e r-is = falls-to 32 t l _ r level (chosen-fresh p l (just (Either m n)) e).0.1 r-is
 
-  pub second-falls : {m n : Mark} → Either m n ≡ choice (plan_sheet p) l → r ≡ add l n → unset_in 32 r < t
-  second-falls {m} {n} e r-is = falls-to 32 t l _ r level (chosen-fresh ready l (Either m n) e).1.1 r-is
+  pub second-falls : {m n : Mark} → just (Either m n) ≡ choice (plan_sheet p) l → r ≡ add l n → unset_in 32 r < t
+  second-falls {m} {n} e r-is = falls-to 32 t l _ r level (chosen-fresh p l (just (Either m n)) e).1.1 r-is
 
 -- ---- the seeds of all of them
-abbrev pub successors_by : Sheet → Label → Choice → List Label
-successors_by s l Nothing = seeds s l
-successors_by s l (Every marks) = successors s (join l marks)
-successors_by s l (Either m k) = successors s (add l m) ++ successors s (add l k)
+abbrev pub successors_by : Sheet → Label → Maybe Choice → List Label
+successors_by s l nothing = seeds s l
+successors_by s l (just (Every marks)) = successors s (join l marks)
+successors_by s l (just (Either m k)) = successors s (add l m) ++ successors s (add l k)
 
 pub successors-none : (s : Sheet) (l : Label) → expansions s l ≡ [] → successors s l ≡ []
 unfolding successors
 successors-none s l e = ap (each (seeds s)) e
 
-successors-by : (s : Sheet) (l : Label) (k : Choice) → expansions s l ≡ expand_by s l k → successors s l ≡ successors_by s l k
+successors-by : (s : Sheet) (l : Label) (k : Maybe Choice) → expansions s l ≡ expand_by s l k → successors s l ≡ successors_by s l k
 unfolding successors
-successors-by s l Nothing e = ap (each (seeds s)) e ∙ append-nil (seeds s l)
-successors-by s l (Every marks) e = ap (each (seeds s)) e
-successors-by s l (Either m k) e = ap (each (seeds s)) e ∙ each_append (seeds s) (expansions s (add l m)) (expansions s (add l k))
+successors-by s l nothing e = ap (each (seeds s)) e ∙ append-nil (seeds s l)
+successors-by s l (just (Every marks)) e = ap (each (seeds s)) e
+successors-by s l (just (Either m k)) e = ap (each (seeds s)) e ∙ each_append (seeds s) (expansions s (add l m)) (expansions s (add l k))
 
-pub chosen-successors : {p : List ℕ} (ready : Prepared p) (l : Label) (k : Choice) → k ≡ choice (plan_sheet p) l → clashes (plan_sheet p) l ≡ false
+pub chosen-successors : (p : Plan) (l : Label) (k : Maybe Choice) → k ≡ choice (plan_sheet p) l → clashes (plan_sheet p) l ≡ false
     → successors (plan_sheet p) l ≡ successors_by (plan_sheet p) l k
-chosen-successors ready l k chosen calm = successors-by _ l k (chosen-expands ready l k chosen calm)
+chosen-successors p l k chosen calm = successors-by _ l k (chosen-expands p l k chosen calm)
 
 -- ---- the first of them that passes
-abbrev pub picked_in : Sheet → (Label → Bool) → Label → Picked
-picked_in s p l = picked_of (first p (expansions s l))
-
-abbrev pub else_picked : Picked → Picked → Picked
-else_picked none q = q
-else_picked (picked k) q = picked k
-
-abbrev pub picked_if : Label → Bool → Picked
-picked_if l true = picked l
-picked_if l false = none
-
-abbrev pub picked_by : Sheet → (Label → Bool) → Label → Choice → Picked
-picked_by s p l Nothing = picked_if l (p l)
-picked_by s p l (Every marks) = picked_in s p (join l marks)
-picked_by s p l (Either m k) = else_picked (picked_in s p (add l m)) (picked_in s p (add l k))
-
-picked-if : (l : Label) (b : Bool) → picked_of (elim b [ true ↦ just l | false ↦ nothing ]) ≡ picked_if l b
+picked-if : (l : Label) (b : Bool) → elim b as (λ _. Maybe Label) [ true ↦ just l | false ↦ nothing ] ≡ then_some b l
 picked-if l true = refl
 picked-if l false = refl
 
-picked-or : (o n : Maybe Label) → picked_of (or_else o n) ≡ else_picked (picked_of o) (picked_of n)
-picked-or nothing n = refl
-picked-or (just k) n = refl
+abbrev pub picked_by : Sheet → (Label → Bool) → Label → Maybe Choice → Maybe Label
+picked_by s p l nothing = then_some (p l) l
+picked_by s p l (just (Every marks)) = first p (expansions s (join l marks))
+picked_by s p l (just (Either m k)) = or_else (first p (expansions s (add l m))) (first p (expansions s (add l k)))
 
-picked-by : (s : Sheet) (p : Label → Bool) (l : Label) (k : Choice) → expansions s l ≡ expand_by s l k → picked_in s p l ≡ picked_by s p l k
-picked-by s p l Nothing e = ap (λ ks. picked_of (first p ks)) e ∙ picked-if l (p l)
-picked-by s p l (Every marks) e = ap (λ ks. picked_of (first p ks)) e
-picked-by s p l (Either m k) e =
-    let xs = expansions s (add l m) in
-    let ys = expansions s (add l k) in
-    ap (λ ks. picked_of (first p ks)) e ∙ ap picked_of (first-append p xs ys) ∙ picked-or (first p xs) (first p ys)
+picked-by : (s : Sheet) (p : Label → Bool) (l : Label) (k : Maybe Choice) → expansions s l ≡ expand_by s l k → first p (expansions s l) ≡ picked_by s p l k
+picked-by s p l nothing e = ap (first p) e ∙ picked-if l (p l)
+picked-by s p l (just (Every marks)) e = ap (first p) e
+picked-by s p l (just (Either m k)) e = ap (first p) e ∙ first-append p (expansions s (add l m)) (expansions s (add l k))
 
-pub chosen-picked : {p : List ℕ} (ready : Prepared p) (l : Label) (k : Choice) → k ≡ choice (plan_sheet p) l → clashes (plan_sheet p) l ≡ false → (q : Label → Bool)
-    → picked_in (plan_sheet p) q l ≡ picked_by (plan_sheet p) q l k
-chosen-picked ready l k chosen calm q = picked-by _ q l k (chosen-expands ready l k chosen calm)
+pub chosen-picked : (p : Plan) (l : Label) (k : Maybe Choice) → k ≡ choice (plan_sheet p) l → clashes (plan_sheet p) l ≡ false → (q : Label → Bool)
+    → first q (expansions (plan_sheet p) l) ≡ picked_by (plan_sheet p) q l k
+chosen-picked p l k chosen calm q = picked-by _ q l k (chosen-expands p l k chosen calm)
 
 -- ---- how many they are, modulo 2^64
 abbrev pub counted_in : Sheet → Label → ℕ
 counted_in s l = length (expansions s l) % 2 ^ 64
 
-abbrev pub counted_by : Sheet → Label → Choice → ℕ
-counted_by s l Nothing = 1
-counted_by s l (Every marks) = counted_in s (join l marks)
-counted_by s l (Either m k) = (counted_in s (add l m) + counted_in s (add l k)) % 2 ^ 64
+abbrev pub counted_by : Sheet → Label → Maybe Choice → ℕ
+counted_by s l nothing = 1
+counted_by s l (just (Every marks)) = counted_in s (join l marks)
+counted_by s l (just (Either m k)) = (counted_in s (add l m) + counted_in s (add l k)) % 2 ^ 64
 
-counted-by : (s : Sheet) (l : Label) (k : Choice) → expansions s l ≡ expand_by s l k → counted_in s l ≡ counted_by s l k
-counted-by s l Nothing e = ap (λ ks. length ks % 2 ^ 64) e
-counted-by s l (Every marks) e = ap (λ ks. length ks % 2 ^ 64) e
-counted-by s l (Either m k) e =
+counted-by : (s : Sheet) (l : Label) (k : Maybe Choice) → expansions s l ≡ expand_by s l k → counted_in s l ≡ counted_by s l k
+counted-by s l nothing e = ap (λ ks. length ks % 2 ^ 64) e
+counted-by s l (just (Every marks)) e = ap (λ ks. length ks % 2 ^ 64) e
+counted-by s l (just (Either m k)) e =
     let xs = expansions s (add l m) in
     let ys = expansions s (add l k) in
     ap (λ ks. length ks % 2 ^ 64) e ∙ ap (λ n. n % 2 ^ 64) (length-append xs ys) ∙ add-mod (length xs) (length ys) (2 ^ 64)
 
-pub chosen-counted : {p : List ℕ} (ready : Prepared p) (l : Label) (k : Choice) → k ≡ choice (plan_sheet p) l → clashes (plan_sheet p) l ≡ false
+pub chosen-counted : (p : Plan) (l : Label) (k : Maybe Choice) → k ≡ choice (plan_sheet p) l → clashes (plan_sheet p) l ≡ false
     → counted_in (plan_sheet p) l ≡ counted_by (plan_sheet p) l k
-chosen-counted ready l k chosen calm = counted-by _ l k (chosen-expands ready l k chosen calm)
+chosen-counted p l k chosen calm = counted-by _ l k (chosen-expands p l k chosen calm)

@@ -1,10 +1,13 @@
 -- The next step of a joint label: what each individual chooses, what the role assertions push, and the settled joint labels by it.
-use Rattle.std.proofs.Common.{◌≡◌, ℕ, ◌+◌, ◌<◌, ◌≤◌, Bool, true, false, ◌||◌, List, [], ◌∷◌, map, length, get_or, drop, set, sym, refl, ap, ◌∙◌, subst, ap₂, ⊎_elim, add-one, arith, drop_of_length-le, length-take-le, drop-cons, get_or-take}
+use Rattle.std.proofs.Common.{◌≡◌, ℕ, zero, ◌+◌, ◌<◌, ◌≤◌, Bool, true, false, ◌||◌, List, [], ◌∷◌, map, length, drop, set, suc, sym, refl, ap, ◌∙◌, subst, ⊎_elim, add-one, arith, drop_of_length-le, length-take-le, drop-cons}
 use mathlib.Core.Bool.{not as flip}
 use borrow.Author.Tests.{not-true}
-use Rattle.alc.specs.Lists.{Maybe, nothing, just, all, first, each, up_to}
-use Rattle.alc.specs.Sheet.{Sheet, count}
+use Rattle.std.specs.List.{list_any}
+use Rattle.std.specs.Prelude.{Option as Maybe, None as nothing, Some as just}
+use Rattle.alc.specs.Lists.{any, all, first, each, from, up_to}
+use Rattle.alc.specs.Sheet.{Sheet, count, role_assertion}
 use Rattle.alc.specs.declared.Label.{Label}
+use Rattle.alc.specs.declared.RoleAssertion.{RoleAssertion}
 use Rattle.alc.specs.declared.Mark.{Mark}
 use Rattle.alc.specs.declared.Mark.TheVariants.{Holds as holds, Fails as fails}
 use Rattle.alc.specs.Label.{line_of, blank, has, add, add_all, join, Demand, every, either, clashes, pushed}
@@ -17,17 +20,36 @@ use Rattle.alc.proofs.Theorems.Moves.{label-in, Listed, moves-elim, add_all-has}
 use Rattle.alc.proofs.Theorems.Steps.{unset_all, DemandBelow, below-mono}
 use Rattle.alc.proofs.Theorems.Settle.{Fits, Less, meet-less, wanted-below, who-below, settle-law}
 use Rattle.steps.specs.declared.step.Choice.{Choice}
-use Rattle.tableau.specs.declared.joint.Labels.{Labels}
+use Rattle.steps.specs.declared.step.Choice.TheVariants.{Every, Either}
+use Rattle.tableau.specs.declared.labels.Labels.{Labels}
 use Rattle.tableau.specs.declared.joint.JointStep.{JointStep}
 use Rattle.tableau.specs.declared.joint.JointStep.TheVariants.{Clashed, Settled, Onward, Split}
-use Rattle.plan.specs.Plan.{plan_sheet, Prepared}
+use Rattle.plan.specs.declared.Plan.{Plan}
+use Rattle.plan.specs.Plan.{plan_sheet}
 use Rattle.steps.specs.Choice.{choice_of, choice}
-use Rattle.tableau.specs.Joints.{joint_of, Fit, own_step, assertion_at, met_by, step_of, next_of, settle_by}
-use Rattle.plan.proofs.Lines.{lines_fit}
-use Rattle.tableau.proofs.Roles.{roles-are, role-in, role-count, roles-fit}
+use Rattle.tableau.specs.Joints.{joint_of, Fit, own_step, met_by, step_of, next_of, settle_by}
+use Rattle.plan.proofs.Lines.{lines_fit, role-inside}
 use Rattle.seeds.proofs.Handing.{add_all-join}
 use Rattle.steps.proofs.Chosen.{or_else, first-append}
 use Rattle.steps.proofs.Firsts.{or-found, Meets, settled, meets, paired-moves, first-meets}
+
+-- ---- a loop over a list: the first of what is left to look at, from place a on, is the first of all
+pub record Passed {A B : Type 0} (p : B → Bool) (f : A → List B) (xs : List A) (a : ℕ) : Type 0 where
+  pub rest : first p (each f (drop a xs)) ≡ first p (each f xs)
+
+module _ {A B : Type 0} {p : B → Bool} {f : A → List B} {xs : List A} {a : ℕ} (g : Passed p f xs a) where
+  pub pass-end : length xs ≤ a → nothing ≡ first p (each f xs)
+  pass-end h = sym (ap (λ (l : List A). first p (each f l)) (drop_of_length-le xs h)) ∙ g.rest
+
+  module _ {x : A} (here : drop a xs ≡ x ∷ drop (suc a) xs) where
+    turned : or_else (first p (f x)) (first p (each f (drop (suc a) xs))) ≡ first p (each f xs)
+    turned = sym (first-append p (f x) (each f (drop (suc a) xs))) ∙ sym (ap (λ (l : List A). first p (each f l)) here) ∙ g.rest
+
+    pub pass-on : first p (f x) ≡ nothing → Passed p f xs (a + 1)
+    pass-on e = rw add-one (record { rest = rw e at turned })
+
+    pub pass-found : (first p (f x) ≡ nothing → ⊥) → first p (f x) ≡ first p (each f xs)
+    pass-found e = sym (or-found (first p (f x)) (first p (each f (drop (suc a) xs))) e) ∙ turned
 
 -- ---- steps
 module _ (s : Sheet) (J : theory.Joint) where
@@ -44,76 +66,86 @@ module _ (s : Sheet) (J : theory.Joint) where
       go (every ms) q = let z : ◌≡◌ {A = ℕ} 0 1 = cc in omega arith
       go (either x y) q = let z : ◌≡◌ {A = ℕ} 0 1 = cc in omega arith
 
+-- std's test of any is the definition's
+pub any-is : {A : Type 0} (p : A → Bool) (xs : List A) → list_any p xs ≡ any p xs
+any-is p [] = refl
+any-is p (x ∷ xs) = ap (λ (b : Bool). p x || b) (any-is p xs)
+
+-- individual a is the a-th
+from-at : (a k i : ℕ) → i < k → drop i (from a k) ≡ (a + i) ∷ drop (suc i) (from a k)
+from-at a zero i h = absurd (omega arith)
+from-at a (suc k) zero h = let e : a ≡ a + 0 = omega arith in ap (λ (x : ℕ). x ∷ from (suc a) k) e
+from-at a (suc k) (suc i) h = let e : suc a + i ≡ a + suc i = omega arith in from-at (suc a) k i (omega arith) ∙ ap (λ (x : ℕ). x ∷ drop (suc i) (from (suc a) k)) e
+
+individual-at : (n i : ℕ) → i < n → drop i (up_to n) ≡ i ∷ drop (suc i) (up_to n)
+individual-at n i h = let e : 0 + i ≡ i = omega arith in from-at 0 n i h ∙ ap (λ (x : ℕ). x ∷ drop (suc i) (up_to n)) e
+
+pub role-at : (s : Sheet) (e : ℕ) → e < length s.roles → drop e s.roles ≡ role_assertion s e ∷ drop (suc e) s.roles
+role-at s e h = drop-cons s.roles e _ h
+
 -- ---- the labels of a joint label as the code has it
 -- an array of eight has as many labels as it counts
-pub joint-length : (j : Labels) → length j.labels ≡ 8 → j.count ≤ 8 → length (joint_of j) ≡ j.count
-joint-length j e h = length-take-le j.count j.labels (omega arith)
+pub joint-length : (j : Labels) → length j.labels ≡ 8 → length (joint_of j) ≡ j.count
+joint-length j e = let h = j.small in length-take-le j.count j.labels (omega arith)
 
--- the label of individual a, as the code reads it
-label_at : (j : Labels) (a : ℕ) → a < j.count → label (joint_of j) a ≡ get_or j.labels a blank
-label_at j a h = get_or-take j.count j.labels a blank h
-
-module _ (s : Sheet) (j : Labels) (a : ℕ) (long : length (joint_of j) ≡ j.count) where
-  -- a turn of the loop, where the label tested clashes or not
-  pub closes-turn : a < j.count → closes s (drop a (joint_of j)) ≡ closes s (joint_of j) → (b : Bool) → b ≡ clashes s (get_or j.labels a blank)
-      → (b || closes s (drop (a + 1) (joint_of j))) ≡ closes s (joint_of j)
-  closes-turn h rest b e =
-      rw (e, ← label_at j a h, add-one) (sym (ap (closes s) (drop-cons (joint_of j) a blank (omega arith))) ∙ rest)
-
-  pub closes-end : j.count ≤ a → closes s (drop a (joint_of j)) ≡ closes s (joint_of j) → false ≡ closes s (joint_of j)
-  closes-end h rest = let b : length (joint_of j) ≤ a = omega arith in sym (ap (closes s) (drop_of_length-le (joint_of j) b)) ∙ rest
-
+module _ (s : Sheet) (J : theory.Joint) (a : ℕ) where
   -- where none clashes, a's does not
-  pub calm-at : a < j.count → closes s (joint_of j) ≡ false → clashes s (get_or j.labels a blank) ≡ false
-  calm-at h e = rw (← label_at j a h) (any_none (clashes s) (joint_of j) e (label (joint_of j) a) (label-in (joint_of j) a (omega arith)))
+  pub calm-at : a < length J → closes s J ≡ false → clashes s (label J a) ≡ false
+  calm-at h e = any_none (clashes s) J e (label J a) (label-in J a h)
 
 -- ---- what an individual chooses
 module _ (s : Sheet) (J : theory.Joint) (a : ℕ) where
+  -- as a step: none where nothing is chosen
+  abbrev own_of : Maybe Choice → JointStep
+  own_of nothing = Settled
+  own_of (just k) = own_step a k
+
   -- the first move's step is the first demand's choice
-  meets-step : {o : Maybe Move} {p : Maybe Demand} → Meets s J a o p → step_of s J o ≡ own_step a (choice_of p)
+  meets-step : {o : Maybe Move} {p : Maybe Demand} → Meets s J a o p → step_of s J o ≡ own_of (choice_of p)
   meets-step settled = refl
   meets-step (meets m e) = go (wanted s J m)
     where
-      go : (d : Demand) → met_by (who m) d ≡ own_step a (choice_of (just d))
+      go : (d : Demand) → met_by (who m) d ≡ own_of (choice_of (just d))
       go (every ms) = ap (λ (b : ℕ). Onward b (add_all blank ms)) e
       go (either x y) = ap (λ (b : ℕ). Split b x y) e
 
   -- what a chooses is the first step among its moves
-  pub own-chooses : own_step a (choice s (label J a)) ≡ step_in s J (moves_of s a)
+  chooses : own_of (choice s (label J a)) ≡ step_in s J (moves_of s a)
   unfolding choice
-  own-chooses = sym (meets-step (first-meets s J a (paired-moves s J a)))
+  chooses = sym (meets-step (first-meets s J a (paired-moves s J a)))
 
--- as the code makes it
-pub own_is : (s : Sheet) (j : Labels) (a : ℕ) → a < j.count → (k : Choice) → k ≡ choice s (get_or j.labels a blank) → (n : JointStep) → n ≡ own_step a k
-    → n ≡ step_in s (joint_of j) (moves_of s a)
-own_is s j a h k e n q = q ∙ ap (own_step a) (e ∙ ap (choice s) (sym (label_at j a h))) ∙ own-chooses s (joint_of j) a
+  own-none : nothing ≡ choice s (label J a) → first (adds s J) (moves_of s a) ≡ nothing
+  own-none e = step-none s J (first (adds s J) (moves_of s a)) (sym chooses ∙ ap own_of (sym e))
 
--- ---- the role assertions of a plan
-module _ (p : List ℕ) where
-  -- pushes one by one
-  pub push-each : map push (plan_sheet p).roles ≡ each (λ e. push (assertion_at p e) ∷ []) (up_to (get_or p 388 0))
-  push-each = rw (roles-are p) (go (up_to (get_or p 388 0)))
-    where
-      go : (is : List ℕ) → map push (map (assertion_at p) is) ≡ each (λ e. push (assertion_at p e) ∷ []) is
-      go [] = refl
-      go (i ∷ is) = ap {B = List Move} (λ r. push (assertion_at p i) ∷ r) (go is)
+  own-moves : (k : Choice) → own_step a k ≡ Settled → ⊥
+  own-moves (Every marks) q = let z : ◌≡◌ {A = ℕ} 0 1 = cc in omega arith
+  own-moves (Either m n) q = let z : ◌≡◌ {A = ℕ} 0 1 = cc in omega arith
 
-module _ {p : List ℕ} (h : Prepared p) where
-  -- both ends are individuals
-  pub role-inside : (e : ℕ) → e < get_or p 388 0 → ((assertion_at p e).source < (plan_sheet p).individuals) × ((assertion_at p e).target < (plan_sheet p).individuals)
-  role-inside e b = (well-formed (plan_sheet p) h.well).roles (assertion_at p e) (role-in p e b)
+  -- a turn of the loop over the individuals
+  module _ (g : Passed (adds s J) (moves_of s) (up_to (length J)) a) (h : a < length J) where
+    pub own-on : nothing ≡ choice s (label J a) → Passed (adds s J) (moves_of s) (up_to (length J)) (a + 1)
+    own-on e = pass-on g (individual-at (length J) a h) (own-none e)
 
--- where role assertion e stands and leads, of those of a plan
-pub record Inside (p : List ℕ) (j : Labels) (e : ℕ) : Type 0 where
-  pub row : e < 16
-  pub source : (assertion_at p e).source < j.count
-  pub target : (assertion_at p e).target < j.count
-  pub small : j.count ≤ 8
+    pub own-found : (k : Choice) → just k ≡ choice s (label J a) → own_step a k ≡ step_in s J (each (moves_of s) (up_to (length J)))
+    own-found k e =
+        let made : own_step a k ≡ step_in s J (moves_of s a) = ap own_of e ∙ chooses in
+        made ∙ ap (step_of s J) (pass-found g (individual-at (length J) a h) (λ q. own-moves k (made ∙ ap (step_of s J) q)))
 
-pub push-inside : {p : List ℕ} {j : Labels} {e : ℕ} → Prepared p → Fit (plan_sheet p) j → e < length (plan_sheet p).roles → Inside p j e
-push-inside {p} {j} {e} h fit b =
-    let g = role-inside h e (omega (arith, role-count p)) in
-    record { row = omega (arith, role-count p, roles-fit h); source = omega (arith, fit.each-one); target = omega (arith, fit.each-one); small = fit.small }
+-- ---- the role assertions of a sheet
+-- pushes one by one
+pub push-each : (es : List RoleAssertion) → map push es ≡ each (λ e. push e ∷ []) es
+push-each [] = refl
+push-each (e ∷ es) = ap {B = List Move} (λ r. push e ∷ r) (push-each es)
+
+-- where role assertion e stands and leads
+pub record Inside (s : Sheet) (j : Labels) (e : ℕ) : Type 0 where
+  pub source : (role_assertion s e).source < j.count
+  pub target : (role_assertion s e).target < j.count
+
+pub push-inside : (p : Plan) (j : Labels) (e : ℕ) → Fit (plan_sheet p) j → e < length (plan_sheet p).roles → Inside (plan_sheet p) j e
+push-inside p j e fit b =
+    let g = role-inside (plan_sheet p) p.prepared.well e b in
+    record { source = omega (arith, fit.each-one); target = omega (arith, fit.each-one) }
 
 -- ---- what a role assertion pushes
 abbrev words : ℕ → ℕ → Label
@@ -130,41 +162,32 @@ add_all-same l (m ∷ ms) e =
     ap (λ (k : Label). add_all k ms) (add_same l m (and_left (has l m) (all (has l) ms) e)) ∙ add_all-same l ms (and_right (has l m) (all (has l) ms) e)
 
 -- as the code does it: nothing where joining changes nothing
-module _ {p : List ℕ} {j : Labels} {e : ℕ} (g : Inside p j e) where
+module _ (s : Sheet) (J : theory.Joint) (e : ℕ) where
   abbrev pub ahead : Label
-  ahead = get_or j.labels (assertion_at p e).target blank
+  ahead = label J (role_assertion s e).target
 
   abbrev pub pushes : List Mark
-  pushes = pushed (plan_sheet p) (assertion_at p e).role (get_or j.labels (assertion_at p e).source blank)
+  pushes = pushed s (role_assertion s e).role (label J (role_assertion s e).source)
 
   module _ {marks more : Label} (m : marks ≡ add_all blank pushes) (q : more ≡ join ahead marks) where
-    adds-is : adds (plan_sheet p) (joint_of j) (push (assertion_at p e)) ≡ flip (all (has ahead) pushes)
-    adds-is =
-        ap₂ (λ (l k : Label). flip (all (has l) (pushed (plan_sheet p) (assertion_at p e).role k)))
-        (label_at j (assertion_at p e).target g.target) (label_at j (assertion_at p e).source g.source)
-
     found-by : (b : Bool) → all (has ahead) pushes ≡ b
-        → first (adds (plan_sheet p) (joint_of j)) (push (assertion_at p e) ∷ []) ≡ elim b as (λ _. Maybe Move) [ true ↦ nothing | false ↦ just (push (assertion_at p e)) ]
-    found-by true t = ap (λ (w : Bool). elim w as (λ _. Maybe Move) [ true ↦ just (push (assertion_at p e)) | false ↦ nothing ]) (adds-is ∙ ap flip t)
-    found-by false t = ap (λ (w : Bool). elim w as (λ _. Maybe Move) [ true ↦ just (push (assertion_at p e)) | false ↦ nothing ]) (adds-is ∙ ap flip t)
-
-    pushed-by : (b : Bool) → all (has ahead) pushes ≡ b
-        → elim b as (λ _. JointStep) [ true ↦ Settled | false ↦ Onward (assertion_at p e).target marks ] ≡ step_in (plan_sheet p) (joint_of j) (push (assertion_at p e) ∷ [])
-    pushed-by true t = sym (ap (step_of (plan_sheet p) (joint_of j)) (found-by true t))
-    pushed-by false t =
-        ap (Onward (assertion_at p e).target)
-        (m ∙ ap (λ (l : Label). add_all blank (pushed (plan_sheet p) (assertion_at p e).role l)) (sym (label_at j (assertion_at p e).source g.source)))
-        ∙ sym (ap (step_of (plan_sheet p) (joint_of j)) (found-by false t))
+        → first (adds s J) (push (role_assertion s e) ∷ []) ≡ elim b as (λ _. Maybe Move) [ true ↦ nothing | false ↦ just (push (role_assertion s e)) ]
+    found-by true t = ap (λ (w : Bool). elim w as (λ _. Maybe Move) [ true ↦ just (push (role_assertion s e)) | false ↦ nothing ]) (ap flip t)
+    found-by false t = ap (λ (w : Bool). elim w as (λ _. Maybe Move) [ true ↦ just (push (role_assertion s e)) | false ↦ nothing ]) (ap flip t)
 
     more-is : more ≡ add_all ahead pushes
     more-is = q ∙ ap (join ahead) m ∙ add_all-join ahead pushes
 
-    pub pushed_none : more.holding ≡ ahead.holding → more.failing ≡ ahead.failing → Settled ≡ step_in (plan_sheet p) (joint_of j) (push (assertion_at p e) ∷ [])
-    pushed_none h f =
-        pushed-by true (all-intro (has ahead) pushes (λ x i. ap (λ (k : Label). has k x) (sym (ap₂ words h f) ∙ more-is) ∙ add_all-has ahead pushes x i))
+    pub pushed_none : more ≡ ahead → Settled ≡ step_in s J (push (role_assertion s e) ∷ [])
+    pushed_none h =
+        sym (ap (step_of s J) (found-by true (all-intro (has ahead) pushes (λ x i. ap (λ (k : Label). has k x) (sym h ∙ more-is) ∙ add_all-has ahead pushes x i))))
 
-    pub pushed-some : (more ≡ ahead → ⊥) → Onward (assertion_at p e).target marks ≡ step_in (plan_sheet p) (joint_of j) (push (assertion_at p e) ∷ [])
-    pushed-some n = ⊎_elim (λ t. absurd (n (more-is ∙ add_all-same ahead pushes t))) (pushed-by false) (cases (all (has ahead) pushes))
+    pub pushed-some : (more ≡ ahead → ⊥) → Onward (role_assertion s e).target marks ≡ step_in s J (push (role_assertion s e) ∷ [])
+    pushed-some n =
+        ⊎_elim
+        (λ t. absurd (n (more-is ∙ add_all-same ahead pushes t)))
+        (λ t. ap (Onward (role_assertion s e).target) m ∙ sym (ap (step_of s J) (found-by false t)))
+        (cases (all (has ahead) pushes))
 
 -- ---- the settled joint labels by the next step
 -- what a step adds is of lines below n, for one of so many individuals, and leaves fewer of their marks unset
@@ -256,28 +279,28 @@ module _ (s : Sheet) (J : theory.Joint) where
         ]
 
 -- ---- over a plan, by the step k that the code has made
-module _ {p : List ℕ} (ready : Prepared p) (j : Labels) (fit : Fit (plan_sheet p) j) (long : length (joint_of j) ≡ j.count)
+module _ (p : Plan) (j : Labels) (fit : Fit (plan_sheet p) j) (long : length (joint_of j) ≡ j.count)
     (k : JointStep) (made : k ≡ next_of (plan_sheet p) (joint_of j)) where
   -- the role assertions' targets have labels
   labelled : Fits (plan_sheet p).roles (length (joint_of j))
-  labelled e i = omega (arith, ((well-formed (plan_sheet p) ready.well).roles e i).1, fit.each-one)
+  labelled e i = omega (arith, ((well-formed (plan_sheet p) p.prepared.well).roles e i).1, fit.each-one)
 
   pub stepped_fresh : FreshBy 32 j.count (joint_of j) k
   stepped_fresh =
       subst (λ (n : ℕ). FreshBy 32 n (joint_of j) k) long
-      (rw made (joint-fresh (plan_sheet p) (joint_of j) (well-formed (plan_sheet p) ready.well) labelled 32 (lines_fit ready)))
+      (rw made (joint-fresh (plan_sheet p) (joint_of j) (well-formed (plan_sheet p) p.prepared.well) labelled 32 (lines_fit p)))
 
   pub stepped-settles : settle (plan_sheet p) (plan_sheet p).roles (joint_of j) ≡ settle_by (plan_sheet p) (joint_of j) k
-  stepped-settles = joint-settles (plan_sheet p) (joint_of j) (well-formed (plan_sheet p) ready.well) labelled ∙ ap (settle_by (plan_sheet p) (joint_of j)) (sym made)
+  stepped-settles = joint-settles (plan_sheet p) (joint_of j) (well-formed (plan_sheet p) p.prepared.well) labelled ∙ ap (settle_by (plan_sheet p) (joint_of j)) (sym made)
 
 -- r is j with f of its label at a, as the code makes it
-module _ (j r : Labels) (a : ℕ) (f : Label → Label) (l : Label) (inside : a < j.count)
-    (e : l ≡ f (get_or j.labels a blank)) (w : (joint_of r ≡ set (joint_of j) a l) × (r.count ≡ j.count)) where
+module _ (j r : Labels) (a : ℕ) (f : Label → Label) (l : Label)
+    (e : l ≡ f (label (joint_of j) a)) (w : (joint_of r ≡ set (joint_of j) a l) × (r.count ≡ j.count)) where
   pub with-is : joint_of r ≡ set (joint_of j) a (f (label (joint_of j) a))
-  with-is = w.0 ∙ ap (set (joint_of j) a) (e ∙ ap f (sym (label_at j a inside)))
+  with-is = w.0 ∙ ap (set (joint_of j) a) e
 
   pub with-fits : (s : Sheet) → Fit s j → Fit s r
-  with-fits s g = record { small = omega (arith, w.1, g.small); each-one = w.1 ∙ g.each-one }
+  with-fits s g = record { each-one = w.1 ∙ g.each-one }
 
   -- a measure t that falls
   pub with-falls : (n t : ℕ) → unset_all n (joint_of j) ≡ t

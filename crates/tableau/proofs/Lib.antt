@@ -1,4 +1,3 @@
 pub mod Buffers
 pub mod Expand
 pub mod Jointly
-pub mod Roles

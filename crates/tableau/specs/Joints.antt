@@ -1,15 +1,14 @@
 -- A joint label as the code has it, and its next step. Definitions only.
-use Rattle.std.specs.Prelude.{◌≡◌, ℕ, ◌≤◌, max, true, false, List, [], ◌∷◌, ◌++◌, length, take, slice_set}
-use Rattle.alc.specs.Lists.{Maybe, nothing, just, first}
-use Rattle.alc.specs.Sheet.{Sheet, RoleAssertion}
+use Rattle.std.specs.Prelude.{◌≡◌, ℕ, max, true, false, List, [], ◌∷◌, ◌++◌, length, take, slice_set}
+use Rattle.std.specs.Prelude.{Option as Maybe, None as nothing, Some as just}
+use Rattle.alc.specs.Lists.{first}
+use Rattle.alc.specs.Sheet.{Sheet}
 use Rattle.alc.specs.Label.{blank, add, add_all, join, Demand, every, either}
 use Rattle.alc.specs.Settle as theory
 use Rattle.alc.specs.Settle.{Move, who, wanted, adds, moves, closes, label, settle}
-use Rattle.sheet.specs.Form.{role_of}
-use Rattle.plan.specs.Plan.{entry_from}
 use Rattle.steps.specs.declared.step.Choice.{Choice}
-use Rattle.steps.specs.declared.step.Choice.TheVariants.{Nothing, Every, Either}
-use Rattle.tableau.specs.declared.joint.Labels.{Labels}
+use Rattle.steps.specs.declared.step.Choice.TheVariants.{Every, Either}
+use Rattle.tableau.specs.declared.labels.Labels.{Labels}
 use Rattle.tableau.specs.declared.joint.JointStep.{JointStep}
 use Rattle.tableau.specs.declared.joint.JointStep.TheVariants.{Clashed, Settled, Onward, Split}
 
@@ -18,18 +17,12 @@ joint_of j = take j.count j.labels
 
 -- a label for each individual, or for the unnamed element
 pub record Fit (s : Sheet) (j : Labels) : Type 0 where
-  pub small : j.count ≤ 8
   pub each-one : j.count ≡ max 1 s.individuals
 
 -- what individual a chooses, as a step
 abbrev pub own_step : ℕ → Choice → JointStep
-own_step a Nothing = Settled
 own_step a (Every marks) = Onward a marks
 own_step a (Either m n) = Split a m n
-
--- role assertion number e, as the plan has it
-abbrev pub assertion_at : List ℕ → ℕ → RoleAssertion
-assertion_at p e = role_of (entry_from p 288 e)
 
 abbrev pub met_by : ℕ → Demand → JointStep
 met_by a (every ms) = Onward a (add_all blank ms)

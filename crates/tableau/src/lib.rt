@@ -3,6 +3,7 @@
 #![tactic(auto)]
 
 pub mod clash; // the clash test of a label over a plan
-pub mod joint; // labels worked jointly, and their next step
+pub mod joint; // the next step of a joint label
+pub mod labels; // a joint label: the labels of up to eight individuals
 pub mod records; // labels as records in a lent buffer
 pub mod walks; // collecting, picking and counting over the settled expansions of a seed

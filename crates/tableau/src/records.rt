@@ -1,24 +1,23 @@
 // Records in a lent buffer: find, add if new, full. How a label is packed into a record stands here alone.
 ghost use Rattle.std.specs.Prelude.{◌≡◌, ◌≤◌, length};
 ghost use Rattle.alc.specs.Seeds.{include};
-ghost use Rattle.tableau.specs.Records.{word_of, label_of, recorded, found_at, GrownTo};
+ghost use Rattle.tableau.specs.Records.{word_of, label_of, recorded, found, GrownTo};
 
 use alc::Label;
 
-// How many records are used; or there is no room.
+// There is no room.
 #[derive(Clone, Copy)]
-pub enum Grown {
-    Full,
-    Used(usize),
-}
+pub struct Full;
 
-// The label as the 64 bits of a record.
+// The label as the 64 bits of a record. It is no `From`: that would stand in alc, which knows nothing of records.
+#[inline]
 pub fn word_of(l: Label) -> u64
     ensures { result ≡ word_of l }
 {
     (l.failing as u64) * 4294967296 + (l.holding as u64)
 }
 
+#[inline]
 pub fn label_of(word: u64) -> Label
     ensures { result ≡ label_of word }
 {
@@ -28,34 +27,26 @@ pub fn label_of(word: u64) -> Label
     }
 }
 
-// The place of a record among the first `used`, or `used`.
-pub fn find(records: &[u64], used: usize, word: u64) -> usize
+// The place of a record among the first `used`.
+pub fn find(records: &[u64], used: usize, word: u64) -> Option<usize>
     requires { used ≤ length records.now }
-    ensures { result ≡ found_at records.now used word }
+    ensures { result ≡ found records.now used word }
 {
-    let mut i = 0;
-    while i < used {
-        if records[i] == word {
-            return i;
-        }
-        i += 1;
-    }
-    used
+    records[..used].iter().position(|record| *record == word)
 }
 
-// One record more, unless it is there.
-pub fn include_label(l: Label, records: &mut [u64], used: usize) -> Grown
+// One record more, unless it is there: how many are used now.
+pub fn include_label(l: Label, records: &mut [u64], used: usize) -> Result<usize, Full>
     requires { used ≤ length records.old }
     ensures { GrownTo (include (recorded used records.old) l) records.old result records.new }
 {
     let word = word_of(l);
-    if find(records, used, word) < used {
-        return Grown::Used(used);
+    if find(records, used, word).is_some() {
+        return Ok(used);
     }
-    if used < records.len() {
-        records[used] = word;
-        Grown::Used(used + 1)
-    } else {
-        Grown::Full
+    if used == records.len() {
+        return Err(Full);
     }
+    records[used] = word;
+    Ok(used + 1)
 }

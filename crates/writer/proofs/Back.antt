@@ -1,11 +1,13 @@
 -- There and back: a form that is written is read as the sheet that it says, and writing what was read gives the same bytes. Assumes nothing.
-use Rattle.std.specs.Prelude.{ℕ, ◌+◌, ◌≤◌, Bool, true, false, cond, ◌≡◌, refl, take, drop, ltb}
+use Rattle.std.specs.Prelude.{ℕ, ◌+◌, ◌≤◌, Bool, true, false, cond, ◌≡◌, refl, take, drop, ltb, Ok}
 use Rattle.std.proofs.Common.{sym, ◌∙◌, ap, arith, le-leb}
 use Rattle.std.proofs.Math.Path.{ap₂}
 use mathlib.Core.List.{List, [], ◌∷◌, ◌++◌, map, append_assoc, append-nil}
 use Rattle.std.proofs.Math.ListN.{length, length-map}
 use Rattle.alc.specs.Lists.{each}
-use Rattle.alc.specs.Sheet.{Line, top, bottom, name, not, and, or, some, only, most_lines, count}
+use Rattle.alc.specs.declared.Line.{Line}
+use Rattle.alc.specs.declared.Line.TheVariants.{Top as top, Bottom as bottom, Name as name, Not as negation, And as and, Or as or, Some as some, Only as only}
+use Rattle.alc.specs.Sheet.{most_lines, count}
 use Rattle.alc.specs.Sheet as theory
 use Rattle.alc.specs.Bytes.{Read, refused, taken, read_sheet, bytes_of, line_bytes, rule_bytes, class_bytes, role_bytes}
 use Rattle.alc.specs.Writing.{groups, bytes_for, Wrote, write_reply, WritePromise}
@@ -14,13 +16,12 @@ use Rattle.sheet.specs.declared.Kind.{Kind}
 use Rattle.sheet.specs.declared.Kind.TheVariants.{Lines, Rules, Classes, Roles}
 use Rattle.sheet.specs.declared.Section.{Section}
 use Rattle.sheet.specs.declared.Sheet.{Sheet}
-use Rattle.sheet.specs.declared.Outcome.TheVariants.{Accepted}
-use Rattle.sheet.specs.declared.Readout.{Readout}
-use Rattle.sheet.specs.Form.{Triple, triples, section_form, entry_numbers, section_numbers, numbers_of, line_triple, rule_triple, class_triple, role_triple}
-use Rattle.sheet.specs.Form.{sheet_of, form_of, outcome_read}
-use Rattle.numbers.specs.Reading.{given}
+use Rattle.sheet.specs.declared.Entry.{Entry as Triple}
+use Rattle.sheet.specs.Form.{triples, section_form, entry_numbers, section_numbers, numbers_of, line_triple, rule_triple, class_triple, role_triple}
+use Rattle.sheet.specs.Form.{sheet_of, form_of}
+use Rattle.numbers.proofs.Reading.{given}
 use Rattle.reader.specs.Promise.{ReadPromise}
-use Rattle.reader.specs.Reading.{Counts, sheet-gives}
+use Rattle.reader.proofs.Reading.{Counts, sheet-gives}
 use Rattle.reader.proofs.Theorems.{triples-form}
 use Rattle.writer.specs.Checks.{Check, form_checks, first_fault, form_verdict}
 use Rattle.writer.specs.Promise.{FormPromise}
@@ -80,7 +81,7 @@ line-bytes : (l : Line) → entry_numbers Lines (line_triple l) ≡ line_bytes l
 line-bytes top = refl
 line-bytes bottom = refl
 line-bytes (name a) = refl
-line-bytes (not i) = refl
+line-bytes (negation i) = refl
 line-bytes (and i j) = refl
 line-bytes (or i j) = refl
 line-bytes (some r i) = refl
@@ -103,10 +104,10 @@ form-numbers s c =
     ∙ sym (append_assoc (L ++ R) (s.individuals ∷ C) E)
 
 -- writing what was read gives the same bytes
-pub written-again : (bs buf : List ℕ) (r : Readout) → ReadPromise bs r → r.outcome ≡ Accepted → length bs ≤ length buf
-    → write_reply (numbers_of r.sheet) buf ≡ record { number = 0; carries = length bs; out = bs ++ drop (length bs) buf }
-written-again bs buf r p o h =
-    let s : theory.Sheet = sheet_of r.sheet in
-    let read : read_sheet bs ≡ taken s (length bs) = sym p.exact ∙ ap (outcome_read s (length bs)) o in
-    ap (λ (l : List ℕ). write_reply l buf) (ap numbers_of p.clean.tidy ∙ form-numbers s (given (sheet-gives bs) read))
+pub written-again : (bs buf : List ℕ) (f : Sheet) → ReadPromise bs (Ok f) → length bs ≤ length buf
+    → write_reply (numbers_of f) buf ≡ record { number = 0; carries = length bs; out = bs ++ drop (length bs) buf }
+written-again bs buf f p h =
+    let s : theory.Sheet = sheet_of f in
+    let read : read_sheet bs ≡ taken s (length bs) = sym p.exact in
+    ap (λ (l : List ℕ). write_reply l buf) (ap numbers_of p.tidy ∙ form-numbers s (given (sheet-gives bs) read))
     ∙ written_back bs s (length bs) buf read h

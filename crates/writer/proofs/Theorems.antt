@@ -14,7 +14,12 @@ use borrow.Author.Tests.{ltb-true, ltb-false, lt-ltb, le-ltb, le-leb, ne_eqb}
 use Rattle.alc.specs.Lists.{each}
 use Rattle.alc.specs.Bytes.{Read, refused, taken, then, number_at, below_at, operands_at, line_at, rule_at, class_at, role_at, several_at, counted_at, sections_at}
 use Rattle.alc.specs.Bytes.{read_sheet}
-use Rattle.alc.specs.Sheet.{Line, Rule, ClassAssertion, RoleAssertion, Sheet, name, not, and, or, some, only, name_count, role_count, most_lines, most_rules}
+use Rattle.alc.specs.declared.Line.{Line}
+use Rattle.alc.specs.declared.Rule.{Rule}
+use Rattle.alc.specs.declared.ClassAssertion.{ClassAssertion}
+use Rattle.alc.specs.declared.RoleAssertion.{RoleAssertion}
+use Rattle.alc.specs.declared.Line.TheVariants.{Name as name, Not as negation, And as and, Or as or, Some as some, Only as only}
+use Rattle.alc.specs.Sheet.{Sheet, name_count, role_count, most_lines, most_rules}
 use Rattle.alc.specs.Sheet.{most_individuals, most_classes, most_roles}
 use Rattle.alc.specs.Writing.{groups, bytes_for}
 use Rattle.alc.proofs.Theorems.Lists.{cases}
@@ -23,11 +28,11 @@ use Rattle.sheet.specs.declared.Kind.{Kind}
 use Rattle.sheet.specs.declared.Kind.TheVariants.{Lines, Rules, Classes, Roles}
 use Rattle.sheet.specs.declared.Section.{Section}
 use Rattle.sheet.specs.declared.Sheet as form
-use Rattle.sheet.specs.Form.{operand_count, Triple, triples, entry_numbers, section_numbers, numbers_of, sheet_of, line_from, line_of, rule_of, class_of, role_of}
-use Rattle.reader.specs.Parts.{most_of}
-use Rattle.reader.specs.Reading.{then-then}
+use Rattle.sheet.specs.declared.Entry.{Entry as Triple}
+use Rattle.sheet.specs.Form.{operand_count, triples, entry_numbers, section_numbers, numbers_of, sheet_of, line_from, line_of, rule_of, class_of, role_of}
+use Rattle.reader.proofs.Reading.{then-then}
 use Rattle.reader.proofs.Theorems.{entry-count}
-use Rattle.writer.specs.Checks.{Check, check, operand_checks, entry_checks, entries_checks, section_checks, form_checks, judged, first_fault}
+use Rattle.writer.specs.Checks.{most_of, Check, check, operand_checks, entry_checks, entries_checks, section_checks, form_checks, judged, first_fault}
 use Rattle.writer.specs.Checks.{form_verdict}
 
 -- ---- a number where its bytes stand
@@ -175,7 +180,7 @@ module _ (bs : List ℕ) where
     operands-on own zero a b p h e on = on p e
     operands-on own (suc zero) a b p h e on = on p e
     operands-on own (suc (suc zero)) a b p h e on = one_on F ns cs G p a name_count 4 name e on
-    operands-on own (suc (suc (suc zero))) a b p h e on = one_on F ns cs G p a own 5 not e on
+    operands-on own (suc (suc (suc zero))) a b p h e on = one_on F ns cs G p a own 5 negation e on
     operands-on own (suc (suc (suc (suc zero)))) a b p h e on = two-on F ns cs G p a own 5 b own 5 and e on
     operands-on own (suc (suc (suc (suc (suc zero))))) a b p h e on = two-on F ns cs G p a own 5 b own 5 or e on
     operands-on own (suc (suc (suc (suc (suc (suc zero)))))) a b p h e on = two-on F ns cs G p a role_count 4 b own 5 some e on

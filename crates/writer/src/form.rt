@@ -1,95 +1,91 @@
-// The numbers of a form in the sheet's order, section by section. What is right stands in sheet's specs/Form.antt (numbers_of).
-ghost use Rattle.std.specs.Prelude.{◌≡◌, [], ◌++◌, ◌+◌, ◌≤◌, ◌<◌, length, take};
-ghost use Rattle.alc.specs.Lists.{each};
-ghost use Rattle.sheet.specs.Form.{triple, triples, entry_width, entry_numbers, section_numbers, numbers_of};
+// The numbers of a form in the sheet's order, section by section, laid as bytes. What is right stands in sheet's specs/Form.antt (numbers_of).
+// How much room each function wants differs, so that it stays a clause.
+ghost use Rattle.std.specs.Prelude.{◌≡◌, ℕ, List, [], ◌++◌, ◌+◌, ◌*◌, ◌≤◌, ◌<◌, length, take};
+ghost use Rattle.alc.specs.Writing.{groups, bytes_for};
+ghost use Rattle.sheet.specs.Form.{entry_width, entry_numbers, section_numbers, numbers_of};
+ghost use Rattle.writer.specs.Laying.{goes_on};
 
-use sheet::{Kind, Section, Sheet, operands};
+use crate::laid::Laid;
+use sheet::{Entry, Kind, MOST, Section, Sheet, operands};
 
-// Four sections of a count and at most 32 entries of three numbers, and the individuals.
-pub const MOST_LAID: usize = 389;
+// The number's groups.
+fn lay_number(n: u16, laid: &mut Laid)
+    requires { length laid.old + 3 ≤ 1167 }
+    ensures { (laid.new ≡ laid.old ++ groups n) × (length laid.new ≤ length laid.old + 3) }
+{
+    if n < 128 {
+        laid.push(n as u8);
+        return;
+    }
+    laid.push((n % 128 + 128) as u8);
+    if n < 16384 {
+        laid.push((n / 128) as u8);
+        return;
+    }
+    laid.push((n / 128 % 128 + 128) as u8);
+    laid.push((n / 16384) as u8);
+}
 
-// How many of its three numbers an entry has, by its first.
+// The groups of each.
+pub fn lay_numbers(numbers: &[u16], laid: &mut Laid)
+    requires { length laid.old + 3 * length numbers.now ≤ 1167 }
+    ensures { (laid.new ≡ laid.old ++ bytes_for numbers.now) × (length laid.new ≤ length laid.old + 3 * length numbers.now) }
+{
+    for n in numbers {
+        lay_number(*n, laid);
+    }
+}
+
+// How many of its three numbers an entry has, by its first: document 01's table.
 fn entry_width(kind: Kind, first: u16) -> usize
-    ensures { (result ≡ entry_width kind first) × (0 < result) × (result ≤ 3) }
+    ensures { (result ≡ entry_width kind first) × (result ≤ 3) }
 {
     match kind {
         Kind::Lines => (operands(first) as usize) + 1,
-        Kind::Rules => 2,
-        Kind::Classes => 2,
+        Kind::Rules | Kind::Classes => 2,
         Kind::Roles => 3,
     }
 }
 
-// The numbers of an entry at a place, and the place behind them.
-fn lay_entry(kind: Kind, a: u16, b: u16, c: u16, numbers: &mut [u16], at: usize) -> usize
-    requires { at + 3 ≤ length numbers.old }
-    ensures { (result ≡ at + length (entry_numbers kind (triple a b c))) × (result ≤ at + 3) × (take result numbers.new ≡ take at numbers.old ++ entry_numbers kind (triple a b c)) }
+// The numbers that an entry has.
+fn lay_entry(kind: Kind, e: Entry, laid: &mut Laid)
+    requires { length laid.old + 9 ≤ 1167 }
+    ensures { (laid.new ≡ laid.old ++ bytes_for (entry_numbers kind e)) × (length laid.new ≤ length laid.old + 9) }
 {
-    let width = entry_width(kind, a);
-    numbers[at] = a;
-    if width == 1 {
-        return at + 1;
-    }
-    numbers[at + 1] = b;
-    if width == 2 {
-        return at + 2;
-    }
-    numbers[at + 2] = c;
-    at + 3
+    let numbers = [e.first, e.second, e.third];
+    lay_numbers(&numbers[..entry_width(kind, e.first)], laid);
 }
 
-// All entries of a section.
-fn lay_entries(kind: Kind, s: Section, numbers: &mut [u16], start: usize) -> usize
-    requires { (s.count ≤ 32) × (start + 96 ≤ length numbers.old) }
-    ensures { (result ≡ start + length (each (entry_numbers kind) (triples s))) × (result ≤ start + 96) × (take result numbers.new ≡ take start numbers.old ++ each (entry_numbers kind) (triples s)) }
+// A section: its count, then its entries. Says whether anything stands behind it: nothing does behind a count that no form can hold.
+fn lay_section(kind: Kind, s: Section, laid: &mut Laid) -> bool
+    requires { length laid.old + 291 ≤ 1167 }
+    ensures { ((more : List ℕ) → laid.old ++ bytes_for (section_numbers kind s more) ≡ goes_on result laid.new more) × (length laid.new ≤ length laid.old + 291) }
 {
+    lay_number(s.count, laid);
     let count = s.count as usize;
-    let mut at = start;
-    let mut i = 0;
-    while i < count {
-        let a = s.first[i];
-        let b = s.second[i];
-        let c = s.third[i];
-        at = lay_entry(kind, a, b, c, numbers, at);
-        i += 1;
+    if MOST < count {
+        return false;
     }
-    at
+    for e in &s.entries[..count] {
+        lay_entry(kind, *e, laid);
+    }
+    true
 }
 
-// A section: its count, then its entries, if a form can hold so many.
-fn lay_section(kind: Kind, s: Section, numbers: &mut [u16], start: usize) -> usize
-    requires { start + 97 ≤ length numbers.old }
-    ensures { (result ≡ start + length (section_numbers kind s [])) × (result ≤ start + 97) × (take result numbers.new ≡ take start numbers.old ++ section_numbers kind s []) }
+// The form's numbers, up to a count that no form can hold.
+pub fn lay_form(sheet: Sheet, laid: &mut Laid)
+    requires { laid.old ≡ [] }
+    ensures { laid.new ≡ laid.old ++ bytes_for (numbers_of sheet) }
 {
-    let count = s.count;
-    numbers[start] = count;
-    if 32 < count {
-        return start + 1;
+    if !lay_section(Kind::Lines, sheet.lines, laid) {
+        return;
     }
-    lay_entries(kind, s, numbers, start + 1)
-}
-
-// The numbers of a form up to a count that no form can hold, and how many they are.
-pub fn lay_form(sheet: Sheet, numbers: &mut [u16]) -> usize
-    requires { length numbers.old ≡ 389 }
-    ensures { (result ≤ 389) × (take result numbers.new ≡ numbers_of sheet) }
-{
-    let lines = sheet.lines;
-    let a = lay_section(Kind::Lines, lines, numbers, 0);
-    if 32 < lines.count {
-        return a;
+    if !lay_section(Kind::Rules, sheet.rules, laid) {
+        return;
     }
-    let rules = sheet.rules;
-    let b = lay_section(Kind::Rules, rules, numbers, a);
-    if 32 < rules.count {
-        return b;
+    lay_number(sheet.individuals, laid);
+    if !lay_section(Kind::Classes, sheet.classes, laid) {
+        return;
     }
-    numbers[b] = sheet.individuals;
-    let classes = sheet.classes;
-    let c = lay_section(Kind::Classes, classes, numbers, b + 1);
-    if 32 < classes.count {
-        return c;
-    }
-    let roles = sheet.roles;
-    lay_section(Kind::Roles, roles, numbers, c)
+    lay_section(Kind::Roles, sheet.roles, laid);
 }

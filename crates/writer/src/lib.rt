@@ -1,123 +1,82 @@
-// The writer of a sheet's bytes, from its form or from its numbers in the sheet's order. The numbers are laid out as bytes first, the reader judges these, and only then is anything written:
+// The writer of a sheet's bytes, from its form or from its numbers in the sheet's order. The bytes are laid first, the reader judges these, and only then is anything written:
 // so the limits stand in the reader alone, and a refusal leaves the buffer as it was.
 // What is right stands in alc's specs/Writing.antt, and of a form in specs/Promise.antt.
 #![tactic(auto)]
 
 pub mod form; // the numbers of a form
+pub mod laid; // bytes laid one behind another
 
-ghost use Rattle.std.specs.Prelude.{◌≡◌, ◌++◌, ◌+◌, ◌≤◌, length, take, drop};
-ghost use Rattle.alc.specs.Writing.{groups, bytes_for, put_bytes, WritePromise};
+ghost use Rattle.std.specs.Prelude.{◌≡◌};
+ghost use Rattle.alc.specs.Bytes.{read_sheet};
+ghost use Rattle.alc.specs.Writing.{write_read, WritePromise};
+ghost use Rattle.writer.specs.declared.Unwritten.TheVariants.{Refused};
 ghost use Rattle.writer.specs.Promise.{FormPromise, written_number, written_value, wrote_of};
 
-use crate::form::{MOST_LAID, lay_form};
+use crate::form::{lay_form, lay_numbers};
+use crate::laid::Laid;
 use reader::read_sheet;
-use sheet::{Outcome, Reason, Sheet};
+use sheet::{Refusal, Sheet};
 
-// Written, with the length; a buffer that is too short, with the length wanted; or why and where a reader would refuse.
+// Why nothing was written: the buffer is too short, with the length wanted; or what a reader would refuse.
 #[derive(Clone, Copy)]
-pub enum Written {
-    Done(usize),
+pub enum Unwritten {
     Long(usize),
-    Refused(Reason, usize),
+    Refused(Refusal),
+}
+
+// The length of what was written, or why nothing was.
+pub type Written = Result<usize, Unwritten>;
+
+impl From<Refusal> for Unwritten {
+    ghost from_gives = { λ r u. u ≡ Refused r };
+
+    fn from(r: Refusal) -> Unwritten {
+        Unwritten::Refused(r)
+    }
 }
 
 // No sheet that is accepted has more numbers than 205; of more than these, so many are judged.
 const MOST_NUMBERS: usize = 341;
 
-// Three groups for each.
-const MOST_BYTES: usize = 1024;
-
-// The number's groups at a place, and the place behind them.
-fn lay_number(n: u16, bytes: &mut [u8], at: usize) -> usize
-    requires { at + 3 ≤ length bytes.old }
-    ensures { (result ≡ at + length (groups n)) × (result ≤ at + 3) × (take result bytes.new ≡ take at bytes.old ++ groups n) }
+// The reader says whether these bytes are a sheet, and why not; then they are put, if the buffer is long enough.
+fn deliver(bytes: &[u8], out: &mut [u8]) -> Written
+    ensures { wrote_of result out.new ≡ write_read out.old bytes.now (read_sheet bytes.now) }
 {
-    if n < 128 {
-        bytes[at] = (n % 256) as u8;
-        return at + 1;
-    }
-    bytes[at] = (n % 128 + 128) as u8;
-    if n < 16384 {
-        bytes[at + 1] = (n / 128 % 256) as u8;
-        return at + 2;
-    }
-    bytes[at + 1] = (n / 128 % 128 + 128) as u8;
-    bytes[at + 2] = (n / 16384) as u8;
-    at + 3
-}
-
-// The bytes of the numbers, as far as they are judged, and how many.
-fn lay_numbers(numbers: &[u16], bytes: &mut [u8]) -> usize
-    requires { length bytes.old ≡ 1024 }
-    ensures { (result ≤ length bytes.new) × (take result bytes.new ≡ bytes_for (take 341 numbers.now)) }
-{
-    let mut at = 0;
-    let mut i = 0;
-    while i < MOST_NUMBERS {
-        if numbers.len() <= i {
-            return at;
-        }
-        at = lay_number(numbers[i], bytes, at);
-        i += 1;
-    }
-    at
-}
-
-// The first n bytes, to the front of the buffer.
-fn put(bytes: &[u8], n: usize, out: &mut [u8])
-    requires { (n ≤ length bytes.now) × (n ≤ length out.old) }
-    ensures { out.new ≡ take n bytes.now ++ drop n out.old }
-{
-    let mut i = 0;
-    while i < n {
-        out[i] = bytes[i];
-        i += 1;
-    }
-}
-
-// A sheet's bytes, if the buffer is long enough.
-fn deliver(bytes: &[u8], n: usize, out: &mut [u8]) -> Written
-    requires { n ≤ length bytes.now }
-    ensures { wrote_of result out.new ≡ put_bytes out.old (take n bytes.now) }
-{
+    read_sheet(bytes)?;
+    let n = bytes.len();
     if out.len() < n {
-        return Written::Long(n);
+        return Err(Unwritten::Long(n));
     }
-    put(bytes, n, out);
-    Written::Done(n)
+    out[..n].copy_from_slice(bytes);
+    Ok(n)
 }
 
 // The bytes of numbers in the sheet's order; the reader says whether they are a sheet, and why not.
 pub fn write_numbers(numbers: &[u16], out: &mut [u8]) -> Written
     ensures { WritePromise numbers.now out.old (wrote_of result out.new) }
 {
-    let mut bytes = [0u8; MOST_BYTES];
-    let n = lay_numbers(numbers, &mut bytes);
-    let readout = read_sheet(&bytes[..n]);
-    let outcome = readout.outcome;
-    match outcome {
-        Outcome::Refused(why, at) => Written::Refused(why, at),
-        Outcome::Accepted => deliver(&bytes, n, out),
-    }
+    let mut laid = Laid::new();
+    lay_numbers(&numbers[..numbers.len().min(MOST_NUMBERS)], &mut laid);
+    deliver(laid.as_slice(), out)
 }
 
 // The bytes of a form, whatever stands in it.
 pub fn write_sheet(sheet: Sheet, out: &mut [u8]) -> Written
     ensures { FormPromise sheet out.old (wrote_of result out.new) }
 {
-    let mut numbers = [0u16; MOST_LAID];
-    let n = lay_form(sheet, &mut numbers);
-    write_numbers(&numbers[..n], out)
+    let mut laid = Laid::new();
+    lay_form(sheet, &mut laid);
+    deliver(laid.as_slice(), out)
 }
 
-// Request 01's number of an answer.
+// Request 01's number of an answer. It and the next are no `From`: the promises and the pages name these functions.
 pub fn written_number(w: Written) -> u64
     ensures { result ≡ written_number w }
 {
     match w {
-        Written::Done(_) => 0,
-        Written::Long(_) => 16,
-        Written::Refused(why, _) => sheet::reason_number(why),
+        Ok(_) => 0,
+        Err(Unwritten::Long(_)) => 16,
+        Err(Unwritten::Refused(r)) => sheet::reason_number(r.why),
     }
 }
 
@@ -126,8 +85,8 @@ pub fn written_value(w: Written) -> usize
     ensures { result ≡ written_value w }
 {
     match w {
-        Written::Done(n) => n,
-        Written::Long(n) => n,
-        Written::Refused(_, at) => at,
+        Ok(n) => n,
+        Err(Unwritten::Long(n)) => n,
+        Err(Unwritten::Refused(r)) => r.at,
     }
 }

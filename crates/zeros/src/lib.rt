@@ -1,44 +1,14 @@
-// Zeros: a lent buffer of each width, cleared. It rests on nothing.
+// Zeros: a lent buffer of numbers of any width, cleared. It rests on nothing.
+// std's `fill` is not called: it clones, and of a `T: Copy` alone no contract says that a clone is the value itself.
 #![tactic(auto)]
 
 ghost use Rattle.std.specs.Prelude.{◌≡◌, length, replicate};
 
-pub fn clear_records(records: &mut [u64])
-    ensures { records.new ≡ replicate (length records.old) 0 }
+// Writes into each place the one value that a width has where none is given: at u64, u32, u16 and u8 that is 0.
+pub fn clear<T: Copy + Default>(buffer: &mut [T])
+    ensures { (zero : T) → ((x : T) → T.is_default x → x ≡ zero) → buffer.new ≡ replicate (length buffer.old) zero }
 {
-    let mut i = 0;
-    while i < records.len() {
-        records[i] = 0;
-        i += 1;
-    }
-}
-
-pub fn clear_words(words: &mut [u32])
-    ensures { words.new ≡ replicate (length words.old) 0 }
-{
-    let mut i = 0;
-    while i < words.len() {
-        words[i] = 0;
-        i += 1;
-    }
-}
-
-pub fn clear_slots(list: &mut [u16])
-    ensures { list.new ≡ replicate (length list.old) 0 }
-{
-    let mut i = 0;
-    while i < list.len() {
-        list[i] = 0;
-        i += 1;
-    }
-}
-
-pub fn clear_marks(marks: &mut [u8])
-    ensures { marks.new ≡ replicate (length marks.old) 0 }
-{
-    let mut i = 0;
-    while i < marks.len() {
-        marks[i] = 0;
-        i += 1;
+    for place in buffer.iter_mut() {
+        *place = T::default();
     }
 }

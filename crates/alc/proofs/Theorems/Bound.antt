@@ -9,7 +9,7 @@ use mathlib.Core.List.Memᴰ
 use mathlib.Core.List.{List, [], ◌∷◌, map}
 use Rattle.std.proofs.lemmas.List.{length-map}
 use Rattle.alc.specs.Lists.{◌∈◌, up_to, filter, each, sublists, remove_one}
-use Rattle.alc.specs.Sheet.{some, count, Line, top, or, bottom, not, only, name, and, line, Sheet}
+use Rattle.alc.specs.Sheet.{some, count, Line, top, or, bottom, negation, only, name, and, line, Sheet}
 use Rattle.alc.specs.Label.{add_all, handed, blank, Label, holds, clashes, Mark, pushed, has, fails}
 use Rattle.alc.specs.Seeds.{asked_mark, handed_mark, seed_from, universe_of, universe, bound, quantifiers, asks, seed_of, quantified, Ask, is_quantified}
 use Rattle.alc.proofs.Theorems.Lists.{filter-intro, cases, each-intro, up_to-intro, and-false-right}
@@ -22,7 +22,7 @@ abbrev contributes : ℕ → Bool → Bool → Line → Bool
 contributes r h f top = false
 contributes r h f bottom = false
 contributes r h f (name a) = false
-contributes r h f (not i) = false
+contributes r h f (negation i) = false
 contributes r h f (and i j) = false
 contributes r h f (or i j) = false
 contributes r h f (some q i) = eqb q r && f
@@ -32,7 +32,7 @@ handed-is : (r : ℕ) (h f : Bool) (c : Line) → handed r h f c ≡ cond (contr
 handed-is r h f top = refl
 handed-is r h f bottom = refl
 handed-is r h f (name a) = refl
-handed-is r h f (not i) = refl
+handed-is r h f (negation i) = refl
 handed-is r h f (and i j) = refl
 handed-is r h f (or i j) = refl
 handed-is r h f (some q i) = refl
@@ -42,7 +42,7 @@ contributes-quantified : (r : ℕ) (h f : Bool) (c : Line) → contributes r h f
 contributes-quantified r h f top e = e
 contributes-quantified r h f bottom e = e
 contributes-quantified r h f (name a) e = e
-contributes-quantified r h f (not i) e = e
+contributes-quantified r h f (negation i) e = e
 contributes-quantified r h f (and i j) e = e
 contributes-quantified r h f (or i j) e = e
 contributes-quantified r h f (some q i) e = refl

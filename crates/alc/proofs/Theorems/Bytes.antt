@@ -13,7 +13,7 @@ use borrow.Author.Tests.{ltb-true, ltb-false, lt-ltb, le-ltb, eqb-true, eqb-fals
 use Rattle.std.proofs.Math.Decide.{dec_lt}
 use native.Mathlib.Omega.{arith}
 use Rattle.alc.specs.Lists.{each, all, from}
-use Rattle.alc.specs.Sheet.{Line, top, bottom, name, not, and, or, some, only, Rule, ClassAssertion, RoleAssertion, Sheet, name_count, role_count, count}
+use Rattle.alc.specs.Sheet.{Line, top, bottom, name, negation, and, or, some, only, Rule, ClassAssertion, RoleAssertion, Sheet, name_count, role_count, count}
 use Rattle.alc.specs.Sheet.{most_lines, most_rules, most_individuals, most_classes, most_roles, operands_below, line_in_limits, lines_well, rules_well}
 use Rattle.alc.specs.Sheet.{classes_well, roles_well, well_formed, in_limits}
 use Rattle.alc.specs.Bytes.{Read, refused, taken, then, number_at, below_at, operands_at, line_at, rule_at, class_at, role_at, several_at, counted_at, sections_at}
@@ -444,7 +444,7 @@ abbrev Operands : ℕ → ℕ → Line → List ℕ → Type 0
 Operands own zero = Exactly (λ l. l ≡ top) (λ l. [])
 Operands own (suc zero) = Exactly (λ l. l ≡ bottom) (λ l. [])
 Operands own (suc (suc zero)) = One name_count name
-Operands own (suc (suc (suc zero))) = One own not
+Operands own (suc (suc (suc zero))) = One own negation
 Operands own (suc (suc (suc (suc zero)))) = Two own own and
 Operands own (suc (suc (suc (suc (suc zero))))) = Two own own or
 Operands own (suc (suc (suc (suc (suc (suc zero)))))) = Two role_count own some
@@ -460,7 +460,7 @@ module _ (own : ℕ) (small : own ≤ 128) where
   reads-operands zero p = reads_none p top
   reads-operands (suc zero) p = reads_none p bottom
   reads-operands (suc (suc zero)) p = reads-one name_count 4 (omega arith) name p
-  reads-operands (suc (suc (suc zero))) p = reads-one own 5 (omega arith) not p
+  reads-operands (suc (suc (suc zero))) p = reads-one own 5 (omega arith) negation p
   reads-operands (suc (suc (suc (suc zero)))) p = reads_two own 5 (omega arith) own small and p
   reads-operands (suc (suc (suc (suc (suc zero))))) p = reads_two own 5 (omega arith) own small or p
   reads-operands (suc (suc (suc (suc (suc (suc zero)))))) p = reads_two role_count 4 (omega arith) own small some p
@@ -483,7 +483,7 @@ module _ (own : ℕ) (small : own ≤ 128) where
   line-operands top t = (0, [], refl, (refl, refl), refl)
   line-operands bottom t = (1, [], refl, (refl, refl), refl)
   line-operands (name a) t = (2, a ∷ [], refl, (a, t, refl, refl), refl)
-  line-operands (not i) t = (3, i ∷ [], refl, (i, and_left (ltb i own) true t, refl, refl), refl)
+  line-operands (negation i) t = (3, i ∷ [], refl, (i, and_left (ltb i own) true t, refl, refl), refl)
   line-operands (and i j) t = (4, i ∷ j ∷ [], refl, (i, j, and_left (ltb i own && ltb j own) true t, refl, refl), refl)
   line-operands (or i j) t = (5, i ∷ j ∷ [], refl, (i, j, and_left (ltb i own && ltb j own) true t, refl, refl), refl)
   line-operands (some r i) t = (6, r ∷ i ∷ [], refl, (r, i, and-swap (ltb i own) (ltb r role_count) t, refl, refl), refl)

@@ -8,7 +8,7 @@ use Rattle.std.proofs.Math.Logic.{⊎_elim}
 use mathlib.Core.List.Memᴰ
 use Rattle.std.proofs.Math.ListN.{length}
 use Rattle.alc.specs.Lists.{all, ◌∈◌, any, up_to}
-use Rattle.alc.specs.Sheet.{some, or, RoleAssertion, and, line, count, Line, only, not, name, Sheet, top, bottom}
+use Rattle.alc.specs.Sheet.{some, or, RoleAssertion, and, line, count, Line, only, negation, name, Sheet, top, bottom}
 use Rattle.alc.specs.Meaning.{meets_rules, value, truth, Interpretation}
 use Rattle.alc.specs.Label.{TrueAt, when_fails, every, when_holds, clashes, pushed, Mark, fails, handed, line_of, is_name, demand, same_name, Demand}
 use Rattle.alc.specs.Label.{mark_true, either, is_top, Label, holds, has, is_bottom, clashes_at}
@@ -33,7 +33,7 @@ bottom-false : (I : Interpretation) (v : ℕ → ℕ → Bool) (c : Line) (x : �
 bottom-false I v top x e = absurd (false≢true e)
 bottom-false I v bottom x e = refl
 bottom-false I v (name a) x e = absurd (false≢true e)
-bottom-false I v (not i) x e = absurd (false≢true e)
+bottom-false I v (negation i) x e = absurd (false≢true e)
 bottom-false I v (and i j) x e = absurd (false≢true e)
 bottom-false I v (or i j) x e = absurd (false≢true e)
 bottom-false I v (some r i) x e = absurd (false≢true e)
@@ -43,7 +43,7 @@ top-true : (I : Interpretation) (v : ℕ → ℕ → Bool) (c : Line) (x : ℕ) 
 top-true I v top x e = refl
 top-true I v bottom x e = absurd (false≢true e)
 top-true I v (name a) x e = absurd (false≢true e)
-top-true I v (not i) x e = absurd (false≢true e)
+top-true I v (negation i) x e = absurd (false≢true e)
 top-true I v (and i j) x e = absurd (false≢true e)
 top-true I v (or i j) x e = absurd (false≢true e)
 top-true I v (some r i) x e = absurd (false≢true e)
@@ -53,7 +53,7 @@ name-value : (I : Interpretation) (v : ℕ → ℕ → Bool) (a : ℕ) (d : Line
 name-value I v a top x e = absurd (false≢true e)
 name-value I v a bottom x e = absurd (false≢true e)
 name-value I v a (name b) x e = ap (λ (k : ℕ). I.in_name k x) (sym (eqb-true a b e))
-name-value I v a (not i) x e = absurd (false≢true e)
+name-value I v a (negation i) x e = absurd (false≢true e)
 name-value I v a (and i j) x e = absurd (false≢true e)
 name-value I v a (or i j) x e = absurd (false≢true e)
 name-value I v a (some r i) x e = absurd (false≢true e)
@@ -63,7 +63,7 @@ same-value : (I : Interpretation) (v : ℕ → ℕ → Bool) (c d : Line) (x : �
 same-value I v top d x e = absurd (false≢true e)
 same-value I v bottom d x e = absurd (false≢true e)
 same-value I v (name a) d x e = sym (name-value I v a d x e)
-same-value I v (not i) d x e = absurd (false≢true e)
+same-value I v (negation i) d x e = absurd (false≢true e)
 same-value I v (and i j) d x e = absurd (false≢true e)
 same-value I v (or i j) d x e = absurd (false≢true e)
 same-value I v (some r i) d x e = absurd (false≢true e)
@@ -104,7 +104,7 @@ module _ (s : Sheet) (wf : WellFormed s) (I : Interpretation) where
   holds-true top x e = refl
   holds-true bottom x e = refl
   holds-true (name a) x e = refl
-  holds-true (not i) x e = one-true (flip (truth s I i x)) e
+  holds-true (negation i) x e = one-true (flip (truth s I i x)) e
   holds-true (and i j) x e = both_true (truth s I i x) (truth s I j x) e
   holds-true (or i j) x e = e
   holds-true (some r i) x e = refl
@@ -114,7 +114,7 @@ module _ (s : Sheet) (wf : WellFormed s) (I : Interpretation) where
   fails-true top x e = refl
   fails-true bottom x e = refl
   fails-true (name a) x e = refl
-  fails-true (not i) x e = one-true (truth s I i x) (not-false (truth s I i x) e)
+  fails-true (negation i) x e = one-true (truth s I i x) (not-false (truth s I i x) e)
   fails-true (and i j) x e = not-and (truth s I i x) (truth s I j x) e
   fails-true (or i j) x e = not-or (truth s I i x) (truth s I j x) e
   fails-true (some r i) x e = refl
@@ -131,7 +131,7 @@ module _ (s : Sheet) (wf : WellFormed s) (I : Interpretation) where
   handed-true top r x y h f b e p q m k = absurd (Memᴰ.not-nil k)
   handed-true bottom r x y h f b e p q m k = absurd (Memᴰ.not-nil k)
   handed-true (name a) r x y h f b e p q m k = absurd (Memᴰ.not-nil k)
-  handed-true (not i) r x y h f b e p q m k = absurd (Memᴰ.not-nil k)
+  handed-true (negation i) r x y h f b e p q m k = absurd (Memᴰ.not-nil k)
   handed-true (and i j) r x y h f b e p q m k = absurd (Memᴰ.not-nil k)
   handed-true (or i j) r x y h f b e p q m k = absurd (Memᴰ.not-nil k)
   handed-true (some t i) r x y h f b e p q m k =

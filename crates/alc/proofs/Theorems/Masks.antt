@@ -1,5 +1,5 @@
 -- The laws of the masks: what whole words say of a label is what `clashes` says of it line by line. Over sets of any width.
-use Rattle.std.specs.Prelude.{ℕ, ◌+◌, ◌^◌, ◌<◌, Bool, false, ◌&&◌, ◌||◌, ◌≡◌, refl, List, get_or, eqb, ltb}
+use Rattle.std.specs.Prelude.{ℕ, ◌^◌, ◌<◌, Bool, false, ◌&&◌, ◌||◌, ◌≡◌, refl, get_or, eqb, ltb}
 use Rattle.std.proofs.Math.Bool.{true, not as flip}
 use Rattle.std.proofs.Common.{true≢false, ◌∙◌, ⊎_elim, arith}
 use Rattle.std.proofs.Math.Path.{sym, ap}
@@ -9,7 +9,8 @@ use Rattle.std.specs.Int.Bits.{bit_or, bit_and}
 use borrow.Author.Tests.{eqb-true, eqb-false, eq-eqb, not-true, lt-ltb, le-ltb, ne_eqb}
 use Rattle.alc.specs.Bits.{bit, meets, members}
 use Rattle.alc.specs.Lists.{any, filter, up_to}
-use Rattle.alc.specs.Sheet.{Line, top, bottom, name, not, and, or, some, only, Sheet, count, line}
+use Rattle.alc.specs.Sheet.{Line, top, bottom, name, negation, and, or, some, only, Sheet, count, line}
+use Rattle.alc.specs.declared.Masks.{Masks}
 use Rattle.alc.specs.Label.{Label, is_top, is_bottom, same_name, clashes_at, clashes}
 use Rattle.alc.specs.Masks.{shares_name, MasksOf}
 use Rattle.alc.proofs.Theorems.Bits.{bit-none, bit-or, bit-and, bit_below}
@@ -22,7 +23,7 @@ pub nameless : (c : Line) → same_name c top ≡ false
 nameless top = refl
 nameless bottom = refl
 nameless (name a) = refl
-nameless (not i) = refl
+nameless (negation i) = refl
 nameless (and i j) = refl
 nameless (or i j) = refl
 nameless (some r i) = refl
@@ -34,12 +35,12 @@ same_back bottom d e = absurd (true≢false (sym e))
 same_back (name a) top e = absurd (true≢false (sym e))
 same_back (name a) bottom e = absurd (true≢false (sym e))
 same_back (name a) (name b) e = eq-eqb b a (sym (eqb-true a b e))
-same_back (name a) (not i) e = absurd (true≢false (sym e))
+same_back (name a) (negation i) e = absurd (true≢false (sym e))
 same_back (name a) (and i j) e = absurd (true≢false (sym e))
 same_back (name a) (or i j) e = absurd (true≢false (sym e))
 same_back (name a) (some r i) e = absurd (true≢false (sym e))
 same_back (name a) (only r i) e = absurd (true≢false (sym e))
-same_back (not i) d e = absurd (true≢false (sym e))
+same_back (negation i) d e = absurd (true≢false (sym e))
 same_back (and i j) d e = absurd (true≢false (sym e))
 same_back (or i j) d e = absurd (true≢false (sym e))
 same_back (some r i) d e = absurd (true≢false (sym e))
@@ -71,20 +72,10 @@ module _ (s : Sheet) where
   pub shares-inside : (i : ℕ) → shares_name s i ≡ true → i < count s
   shares-inside i e = let (j, _, same) = shares-elim i e in named-inside j i (same_back (line s i) (line s j) same)
 
--- ---- the masks in another list, or of another sheet with the same lines
-pub masks-moved : {s : Sheet} {p : List ℕ} {at : ℕ} (t : Sheet) (q : List ℕ) (to : ℕ) → MasksOf s p at → t.lines ≡ s.lines
-    → ((k : ℕ) → get_or q (to + k) 0 ≡ get_or p (at + k) 0) → MasksOf t q to
+-- ---- the masks of another sheet with the same lines
+pub masks-moved : {s : Sheet} {m : Masks} (t : Sheet) → MasksOf s m → t.lines ≡ s.lines → MasksOf t m
 unfolding shares_name
-masks-moved {s} {p} {at} t q to right lines word =
-    let word' : (m n k : ℕ) → m ≡ to + k → n ≡ at + k → get_or q m 0 ≡ get_or p n 0 =
-    λ m n k e f. ap (λ (x : ℕ). get_or q x 0) e ∙ word k ∙ ap (λ (x : ℕ). get_or p x 0) (sym f) in
-    rw lines record {
-      lines = λ i. rw (word' to at 0 (omega arith) (omega arith)) (right.lines i);
-      bottoms = λ i. rw (word 1) (right.bottoms i);
-      tops = λ i. rw (word 2) (right.tops i);
-      shared = λ i. rw (word 3) (right.shared i);
-      groups = λ i j b. rw (word' (to + 4 + i) (at + 4 + i) (4 + i) (omega arith) (omega arith)) (right.groups i j b);
-    }
+masks-moved t right lines = rw lines record { lines = right.lines; bottoms = right.bottoms; tops = right.tops; shared = right.shared; groups = right.groups }
 
 -- ---- the masks of a sheet, and a label
 four : (h f b t u : Bool) → (h && b || f && t || h && f || h && u) ≡ ((((h && f) && true || h && (true && b)) || f && (true && t)) || h && u)
@@ -103,10 +94,10 @@ outside true false b t = refl
 outside false true b t = refl
 outside false false b t = refl
 
-module _ {s : Sheet} {m : List ℕ} (right : MasksOf s m 0) (l : Label) where
+module _ {s : Sheet} {m : Masks} (right : MasksOf s m) (l : Label) where
   -- marks that clash whatever the names: both on one line, bottom holding, top failing
   abbrev pub plain : ℕ
-  plain = bit_or (bit_or (bit_and (bit_and l.holding l.failing) (get_or m 0 0)) (bit_and l.holding (get_or m 1 0))) (bit_and l.failing (get_or m 2 0))
+  plain = bit_or (bit_or (bit_and (bit_and l.holding l.failing) m.lines) (bit_and l.holding m.bottoms)) (bit_and l.failing m.tops)
 
   abbrev held : ℕ → Bool
   held i = bit l.holding i
@@ -121,13 +112,13 @@ module _ {s : Sheet} {m : List ℕ} (right : MasksOf s m 0) (l : Label) where
   plain-is : (i : ℕ) → bit plain i
       ≡ (((held i && failed i) && ltb i (count s) || held i && (ltb i (count s) && is_bottom (line s i))) || failed i && (ltb i (count s) && is_top (line s i)))
   plain-is i =
-      bit-or (bit_or (bit_and (bit_and l.holding l.failing) (get_or m 0 0)) (bit_and l.holding (get_or m 1 0))) (bit_and l.failing (get_or m 2 0)) i
+      bit-or (bit_or (bit_and (bit_and l.holding l.failing) m.lines) (bit_and l.holding m.bottoms)) (bit_and l.failing m.tops) i
       ∙ rw (
-        bit-or (bit_and (bit_and l.holding l.failing) (get_or m 0 0)) (bit_and l.holding (get_or m 1 0)) i,
-        bit-and (bit_and l.holding l.failing) (get_or m 0 0) i,
+        bit-or (bit_and (bit_and l.holding l.failing) m.lines) (bit_and l.holding m.bottoms) i,
+        bit-and (bit_and l.holding l.failing) m.lines i,
         bit-and l.holding l.failing i,
-        bit-and l.holding (get_or m 1 0) i,
-        bit-and l.failing (get_or m 2 0) i,
+        bit-and l.holding m.bottoms i,
+        bit-and l.failing m.tops i,
         right.lines i,
         right.bottoms i,
         right.tops i,
@@ -204,43 +195,43 @@ module _ {s : Sheet} {m : List ℕ} (right : MasksOf s m 0) (l : Label) where
         (any-intro (λ j. failed j && same_name (line s i) (line s j)) (up_to (count s)) (up_to-intro (count s) j (named-inside s i j q.same))
         (and_both (failed j) (same_name (line s i) (line s j)) q.fails q.same)))
 
-    on-shares : (q : Pair) → bit (get_or m 3 0) q.on ≡ true
+    on-shares : (q : Pair) → bit m.shared q.on ≡ true
     on-shares q = right.shared q.on ∙ shares-intro s q.on q.off (apart q.on q.off q.holds q.fails q.same) q.same
 
-    off-shares : (q : Pair) → bit (get_or m 3 0) q.off ≡ true
+    off-shares : (q : Pair) → bit m.shared q.off ≡ true
     off-shares q =
         right.shared q.off
         ∙ shares-intro s q.off q.on (λ e. apart q.on q.off q.holds q.fails q.same (sym e))
         (same_back (line s q.on) (line s q.off) q.same)
 
-    nowhere : (t : ℕ) → bit_and t (get_or m 3 0) ≡ 0 → (i : ℕ) → bit t i ≡ true → bit (get_or m 3 0) i ≡ true → ⊥
-    nowhere t e i a b = eqb-false (bit_and t (get_or m 3 0)) 0 (not-true (eqb (bit_and t (get_or m 3 0)) 0) (meets-intro t (get_or m 3 0) i a b)) e
+    nowhere : (t : ℕ) → bit_and t m.shared ≡ 0 → (i : ℕ) → bit t i ≡ true → bit m.shared i ≡ true → ⊥
+    nowhere t e i a b = eqb-false (bit_and t m.shared) 0 (not-true (eqb (bit_and t m.shared) 0) (meets-intro t m.shared i a b)) e
 
     -- so no name is looked at where none of those that hold, or none of those that fail, is shared
-    pub none-holds : bit_and l.holding (get_or m 3 0) ≡ 0 → clashes s l ≡ false
+    pub none-holds : bit_and l.holding m.shared ≡ 0 → clashes s l ≡ false
     none-holds e = ⊎_elim (λ c. let q = pair c in absurd (nowhere l.holding e q.on q.holds (on-shares q))) (λ c. c) (cases (clashes s l))
 
-    pub none-fails : bit_and l.failing (get_or m 3 0) ≡ 0 → clashes s l ≡ false
+    pub none-fails : bit_and l.failing m.shared ≡ 0 → clashes s l ≡ false
     none-fails e = ⊎_elim (λ c. let q = pair c in absurd (nowhere l.failing e q.off q.fails (off-shares q))) (λ c. c) (cases (clashes s l))
 
     -- a line that holds and shares its name has one of its group failing
-    pub by-groups : (n : ℕ) → l.holding < 2 ^ n → clashes s l ≡ any (λ i. meets l.failing (get_or m (4 + i) 0)) (members n (bit_and l.holding (get_or m 3 0)))
+    pub by-groups : (n : ℕ) → l.holding < 2 ^ n → clashes s l ≡ any (λ i. meets l.failing (get_or m.groups i 0)) (members n (bit_and l.holding m.shared))
     unfolding members
     by-groups n fits =
-        let sharing = bit_and l.holding (get_or m 3 0) in
-        tests_same (clashes s l) (any (λ i. meets l.failing (get_or m (4 + i) 0)) (filter (bit sharing) (up_to n)))
+        let sharing = bit_and l.holding m.shared in
+        tests_same (clashes s l) (any (λ i. meets l.failing (get_or m.groups i 0)) (filter (bit sharing) (up_to n)))
         (λ e.
         let q = pair e in
         let i = q.on in
         let j = q.off in
         let b : i < count s = named-inside s j i (same_back (line s i) (line s j) q.same) in
-        any-intro (λ i. meets l.failing (get_or m (4 + i) 0)) (filter (bit sharing) (up_to n))
+        any-intro (λ i. meets l.failing (get_or m.groups i 0)) (filter (bit sharing) (up_to n))
         (filter-intro (bit sharing) (up_to n) (up_to-intro n i (bit_below l.holding n i fits q.holds))
-        (bit-and l.holding (get_or m 3 0) i ∙ and_both (held i) (bit (get_or m 3 0) i) q.holds (on-shares q)))
-        (meets-intro l.failing (get_or m (4 + i) 0) j q.fails (right.groups i j b ∙ q.same)))
+        (bit-and l.holding m.shared i ∙ and_both (held i) (bit m.shared i) q.holds (on-shares q)))
+        (meets-intro l.failing (get_or m.groups i 0) j q.fails (right.groups i j b ∙ q.same)))
         (λ e.
-        let (i, k, met) = any-elim (λ i. meets l.failing (get_or m (4 + i) 0)) (filter (bit sharing) (up_to n)) e in
-        let both : (held i && bit (get_or m 3 0) i) ≡ true = sym (bit-and l.holding (get_or m 3 0) i) ∙ (filter-elim (bit sharing) (up_to n) k).1 in
-        let b : i < count s = shares-inside s i (sym (right.shared i) ∙ and_right (held i) (bit (get_or m 3 0) i) both) in
-        let (j, f, g) = meets-elim l.failing (get_or m (4 + i) 0) met in
-        pair-clashes (record { on = i; off = j; holds = and_left (held i) (bit (get_or m 3 0) i) both; fails = f; same = sym (right.groups i j b) ∙ g }))
+        let (i, k, met) = any-elim (λ i. meets l.failing (get_or m.groups i 0)) (filter (bit sharing) (up_to n)) e in
+        let both : (held i && bit m.shared i) ≡ true = sym (bit-and l.holding m.shared i) ∙ (filter-elim (bit sharing) (up_to n) k).1 in
+        let b : i < count s = shares-inside s i (sym (right.shared i) ∙ and_right (held i) (bit m.shared i) both) in
+        let (j, f, g) = meets-elim l.failing (get_or m.groups i 0) met in
+        pair-clashes (record { on = i; off = j; holds = and_left (held i) (bit m.shared i) both; fails = f; same = sym (right.groups i j b) ∙ g }))

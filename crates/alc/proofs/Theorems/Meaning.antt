@@ -5,7 +5,7 @@ use Rattle.std.proofs.Common.{◌∙◌, ap, ⊎_elim, ltb-true, ltb-false, arit
 use Rattle.std.proofs.Math.Path.{ap₂, fun_ext}
 use Rattle.std.proofs.Math.ListN.{get_or-eq_default}
 use Rattle.alc.specs.Lists.{all, ◌∈◌, up_to, any}
-use Rattle.alc.specs.Sheet.{some, count, top, Line, ClassAssertion, Rule, or, RoleAssertion, bottom, not, only, name, and, line, operands_below, Sheet}
+use Rattle.alc.specs.Sheet.{some, count, top, Line, ClassAssertion, Rule, or, RoleAssertion, bottom, negation, only, name, and, line, operands_below, Sheet}
 use Rattle.alc.specs.Sheet.{name_count, role_count, line_in_limits, in_limits}
 use Rattle.alc.specs.Meaning.{truth, meets, meets_roles, meets_classes, meets_rules, Interpretation, value, truth_to}
 use Rattle.alc.proofs.Theorems.Lists.{and_right, cases, all-intro, all-elim, up_to-intro, and_left, up_to-elim, any-cong, all-cong, get_or-in}
@@ -16,7 +16,7 @@ value-cong : (I : Interpretation) (v w : ℕ → ℕ → Bool) (n : ℕ) (c : Li
 value-cong I v w n top x e h = refl
 value-cong I v w n bottom x e h = refl
 value-cong I v w n (name a) x e h = refl
-value-cong I v w n (not i) x e h = ap (λ (u : ℕ → Bool). flip (u x)) (h i (ltb-true i n e))
+value-cong I v w n (negation i) x e h = ap (λ (u : ℕ → Bool). flip (u x)) (h i (ltb-true i n e))
 value-cong I v w n (and i j) x e h =
     ap (λ (u : ℕ → Bool). u x && v j x) (h i (ltb-true i n (and_left (ltb i n) (ltb j n) e)))
     ∙ ap (λ (u : ℕ → Bool). w i x && u x) (h j (ltb-true j n (and_right (ltb i n) (ltb j n) e)))
@@ -89,7 +89,7 @@ module _ (s : Sheet) (limits : in_limits s ≡ true) (I : Interpretation) (in_na
   value_same v w h top x e b = refl
   value_same v w h bottom x e b = refl
   value_same v w h (name a) x e b = names a x (ltb-true a name_count e) b
-  value_same v w h (not i) x e b = ap flip (h i x b)
+  value_same v w h (negation i) x e b = ap flip (h i x b)
   value_same v w h (and i j) x e b = ap₂ ◌&&◌ (h i x b) (h j x b)
   value_same v w h (or i j) x e b = ap₂ ◌||◌ (h i x b) (h j x b)
   value_same v w h (some r i) x e b =

@@ -1,15 +1,15 @@
 -- Members of sets: the lowest; one that two sets have in common. Walking a set by its lowest member first is walking the list of its members: one law
 -- for every loop that does so.
 use Rattle.std.specs.Prelude.{ℕ, zero, suc, ◌+◌, ◌-◌, ◌*◌, ◌/◌, ◌%◌, ◌^◌, ◌≤◌, ◌<◌, Bool, true, false, not as flip, ◌&&◌, ◌≡◌, refl, List, [], ◌∷◌, ◌++◌, eqb}
-use Rattle.std.proofs.Common.{sym, ◌∙◌, ap, ap₂, ⊎_elim, one-mul, arith, lit<, shl_exact, pow_pos, eq-eqb, ne_eqb}
+use Rattle.std.proofs.Common.{sym, subst, ◌∙◌, ap, ap₂, ⊎_elim, one-mul, arith, lit<, shl_exact, pow_pos, eq-eqb, ne_eqb}
 use Rattle.std.proofs.Math.Nat.{pow-succ'}
 use Rattle.std.specs.Int.Bits.{bit_and}
 use Rattle.std.specs.Int.Count.{count_trailing_zeros, under}
 use Rattle.std.proofs.lemmas.Bool.{eqb-false, not-true}
 use Rattle.alc.specs.Bits.{bit, meets, members}
-use Rattle.alc.specs.Lists.{◌∈◌, filter, each, from}
+use Rattle.alc.specs.Lists.{◌∈◌, filter, each, from, up_to}
 use Rattle.alc.proofs.Theorems.Bits.{bit-suc, bit-zero, bit-none, bit-and, bit_le, bit-without, bit-without-other}
-use Rattle.alc.proofs.Theorems.Lists.{filter-step, here, there, clashing, and_left, and_right, and_both, same?}
+use Rattle.alc.proofs.Theorems.Lists.{filter-step, filter-elim, up_to-elim, here, there, clashing, and_left, and_right, and_both, same?}
 
 -- ---- the lowest member
 pub record Lowest (n s t : ℕ) : Type 0 where
@@ -111,6 +111,11 @@ members-none n = go 0 n
     go : (a k : ℕ) → filter (bit 0) (from a k) ≡ []
     go a zero = refl
     go a (suc k) = ⊎_elim (λ s. clashing (bit 0 a) s.0 (bit-none a)) (λ s. s.1 ∙ go (suc a) k) (filter-step (bit 0) a (from (suc a) k))
+
+-- the one that comes next is one of the lines
+pub member-below : {n i : ℕ} {rest : List ℕ} (s : ℕ) → members n s ≡ i ∷ rest → i < n
+unfolding members
+member-below {n} {i} {rest} s e = up_to-elim n i (filter-elim (bit s) (up_to n) (subst (λ (xs : List ℕ). i ∈ xs) (sym e) here)).0
 
 -- its start: f of each line is f of each member, where f of any other is nothing
 module _ {A B : Type 0} where

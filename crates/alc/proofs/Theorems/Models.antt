@@ -8,7 +8,7 @@ use Rattle.std.proofs.Common.{sym, ◌∙◌, ltb-true, eqb-true, eq-eqb}
 use Rattle.std.proofs.Math.Logic.{⊎_elim}
 use native.Mathlib.Omega.{arith}
 use Rattle.alc.specs.Lists.{◌∈◌, up_to}
-use Rattle.alc.specs.Sheet.{some, or, and, line, operands_below, count, Line, only, Rule, not, name, Sheet, top, bottom}
+use Rattle.alc.specs.Sheet.{some, or, and, line, operands_below, count, Line, only, Rule, negation, name, Sheet, top, bottom}
 use Rattle.alc.specs.Meaning.{meets_rules, value, truth, Interpretation}
 use Rattle.alc.specs.Label.{when_fails, when_holds, clashes, pushed, Mark, fails, handed, line_of, blank, is_name, demand, same_name, ◌⊆◌, mark_true, either}
 use Rattle.alc.specs.Label.{met, is_top, Label, holds, has, is_bottom, clashes_at}
@@ -30,7 +30,7 @@ is_name_lem : (a : ℕ) (c : Line) → is_name a c ≡ true → c ≡ name a
 is_name_lem a top e = absurd (false≢true e)
 is_name_lem a bottom e = absurd (false≢true e)
 is_name_lem a (name b) e = ap name (sym (eqb-true a b e))
-is_name_lem a (not i) e = absurd (false≢true e)
+is_name_lem a (negation i) e = absurd (false≢true e)
 is_name_lem a (and i j) e = absurd (false≢true e)
 is_name_lem a (or i j) e = absurd (false≢true e)
 is_name_lem a (some r i) e = absurd (false≢true e)
@@ -114,7 +114,7 @@ module _ (s : Sheet) (lab : ℕ → Label) (edge : ℕ → ℕ → ℕ → Bool)
       holds-value e (name a) q b d =
           any-intro (λ i. is_name a (line s i) && has (lab x) (holds i)) (up_to (count s)) (up_to-intro (count s) i i<)
           (and_both (is_name a (line s i)) _ (rw q (eq-eqb a a refl)) e)
-      holds-value e (not j) q b d = below x x< (fails j) (ltb-true j i b) (and_left (has (lab x) (fails j)) true d)
+      holds-value e (negation j) q b d = below x x< (fails j) (ltb-true j i b) (and_left (has (lab x) (fails j)) true d)
       holds-value e (and j k) q b d =
           let hj = has (lab x) (holds j) in
           let hk = has (lab x) (holds k) in
@@ -150,7 +150,7 @@ module _ (s : Sheet) (lab : ℕ → Label) (edge : ℕ → ℕ → ℕ → Bool)
           (and_right (is_name a (line s k)) _ t) e))
           (λ t. t)
           (cases (is_name a (line s k) && has (lab x) (holds k))))
-      fails-value e (not j) q b d = ap flip (below x x< (holds j) (ltb-true j i b) (and_left (has (lab x) (holds j)) true d))
+      fails-value e (negation j) q b d = ap flip (below x x< (holds j) (ltb-true j i b) (and_left (has (lab x) (holds j)) true d))
       fails-value e (and j k) q b d =
           ⊎_elim
           (λ h. and-false-left (truth s model j x) _ (not-true (truth s model j x) (below x x< (fails j) (ltb-true j i (and_left (ltb j i) (ltb k i) b)) h)))

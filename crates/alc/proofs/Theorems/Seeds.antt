@@ -4,7 +4,7 @@ use Rattle.std.proofs.Common.{sym, subst, eqb-true, eq-eqb, ⊎_elim}
 use mathlib.Core.List.Memᴰ
 use mathlib.Core.List.{List, ◌∷◌}
 use Rattle.alc.specs.Lists.{◌∈◌, up_to}
-use Rattle.alc.specs.Sheet.{some, count, top, Line, or, not, bottom, only, and, name, line, Sheet}
+use Rattle.alc.specs.Sheet.{some, count, top, Line, or, negation, bottom, only, and, name, line, Sheet}
 use Rattle.alc.specs.Label.{blank, Label, has, holds, pushed, Mark, fails}
 use Rattle.alc.specs.Seeds.{seeds, same, asks_of, asks, seed_of, Ask, among}
 use Rattle.alc.proofs.Theorems.Lists.{and_both, and_right, cond-elim, clashing, each-elim, there, any-elim, any-intro, and_left, up_to-elim}
@@ -46,7 +46,7 @@ module _ (s : Sheet) (l : Label) (i : ℕ) (i< : i < count s) (q : Ask) where
   asker-of top e k = absurd (Memᴰ.not-nil k)
   asker-of bottom e k = absurd (Memᴰ.not-nil k)
   asker-of (name a) e k = absurd (Memᴰ.not-nil k)
-  asker-of (not j) e k = absurd (Memᴰ.not-nil k)
+  asker-of (negation j) e k = absurd (Memᴰ.not-nil k)
   asker-of (and j j') e k = absurd (Memᴰ.not-nil k)
   asker-of (or j j') e k = absurd (Memᴰ.not-nil k)
   asker-of (some r j) e k =

@@ -4,7 +4,7 @@ use Rattle.std.proofs.lemmas.Bool.{false≢true}
 use Rattle.std.proofs.Common.{true≢false, sym, subst, ⊎_elim, ltb-true, arith}
 use mathlib.Core.List.Memᴰ
 use Rattle.alc.specs.Lists.{nothing, Maybe, just, ◌∈◌, first}
-use Rattle.alc.specs.Sheet.{some, or, RoleAssertion, and, operands_below, Line, only, not, name, Sheet, top, bottom}
+use Rattle.alc.specs.Sheet.{some, or, RoleAssertion, and, operands_below, Line, only, negation, name, Sheet, top, bottom}
 use Rattle.alc.specs.Label.{when_fails, every, when_holds, Mark, fails, handed, line_of, ◌⊆◌, Demand, either, Label, holds, has, add_all}
 use Rattle.alc.specs.Settle.{who, settled, moves, label, next, Move, meet, adds, clashed, closes, Joint, wanted, mark_at}
 use Rattle.alc.proofs.Theorems.Lists.{first-is, and_left, and_right, same?, Found, cond-elim, missing, found}
@@ -108,7 +108,7 @@ pub holds-below : (n : ℕ) (c : Line) → operands_below n c ≡ true → Deman
 holds-below n top e = none_below n
 holds-below n bottom e = none_below n
 holds-below n (name a) e = none_below n
-holds-below n (not i) e = one_below n (fails i) (ltb-true i n e)
+holds-below n (negation i) e = one_below n (fails i) (ltb-true i n e)
 holds-below n (and i j) e = two-below n (holds i) (holds j) (ltb-true i n (and_left (ltb i n) (ltb j n) e)) (ltb-true j n (and_right (ltb i n) (ltb j n) e))
 holds-below n (or i j) e = (ltb-true i n (and_left (ltb i n) (ltb j n) e), ltb-true j n (and_right (ltb i n) (ltb j n) e))
 holds-below n (some r i) e = none_below n
@@ -118,7 +118,7 @@ pub fails-below : (n : ℕ) (c : Line) → operands_below n c ≡ true → Deman
 fails-below n top e = none_below n
 fails-below n bottom e = none_below n
 fails-below n (name a) e = none_below n
-fails-below n (not i) e = one_below n (holds i) (ltb-true i n e)
+fails-below n (negation i) e = one_below n (holds i) (ltb-true i n e)
 fails-below n (and i j) e = (ltb-true i n (and_left (ltb i n) (ltb j n) e), ltb-true j n (and_right (ltb i n) (ltb j n) e))
 fails-below n (or i j) e = two-below n (fails i) (fails j) (ltb-true i n (and_left (ltb i n) (ltb j n) e)) (ltb-true j n (and_right (ltb i n) (ltb j n) e))
 fails-below n (some r i) e = none_below n
@@ -128,7 +128,7 @@ pub handed-below : (n : ℕ) (c : Line) → operands_below n c ≡ true → (r :
 handed-below n top e r h f m k = absurd (Memᴰ.not-nil k)
 handed-below n bottom e r h f m k = absurd (Memᴰ.not-nil k)
 handed-below n (name a) e r h f m k = absurd (Memᴰ.not-nil k)
-handed-below n (not i) e r h f m k = absurd (Memᴰ.not-nil k)
+handed-below n (negation i) e r h f m k = absurd (Memᴰ.not-nil k)
 handed-below n (and i j) e r h f m k = absurd (Memᴰ.not-nil k)
 handed-below n (or i j) e r h f m k = absurd (Memᴰ.not-nil k)
 handed-below n (some t i) e r h f m k = subst (λ (x : Mark). line_of x < n) (sym (cond-elim (eqb t r && f) k).1) (ltb-true i n e)

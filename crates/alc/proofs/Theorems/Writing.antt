@@ -12,7 +12,7 @@ use Rattle.std.proofs.lemmas.List.{take-append-le}
 use Rattle.std.proofs.Math.Dec.{ltb}
 use borrow.Author.Tests.{eqb-false, ltb-true, ltb-false, lt-ltb, le-ltb, leb-true, leb-false, le-leb, lt-leb}
 use native.Mathlib.Omega.{arith}
-use Rattle.alc.specs.Sheet.{name, not, and, or, some, only, Sheet, name_count, role_count}
+use Rattle.alc.specs.Sheet.{name, negation, and, or, some, only, Sheet, name_count, role_count}
 use Rattle.alc.specs.Sheet.{most_lines, most_rules, most_individuals, most_classes, most_roles}
 use Rattle.alc.specs.Bytes.{Read, refused, taken, then, number_at, below_at, operands_at, line_at, rule_at, class_at, role_at, several_at, counted_at, sections_at}
 use Rattle.alc.specs.Bytes.{read_sheet, bytes_of}
@@ -169,8 +169,8 @@ module _ (bs : List ℕ) where
   walks-operands own (suc zero) p h = (omega arith, short_none p, tt)
   walks-operands own (suc (suc zero)) p h = walks_more Any 1 2 p (then (below_at bs name_count 4 p) (λ a q. taken (name a) q)) (omega arith)
       (walks-one name_count 4 p (omega arith) name)
-  walks-operands own (suc (suc (suc zero))) p h = walks_more Any 1 2 p (then (below_at bs own 5 p) (λ i q. taken (not i) q)) (omega arith)
-      (walks-one own 5 p h not)
+  walks-operands own (suc (suc (suc zero))) p h = walks_more Any 1 2 p (then (below_at bs own 5 p) (λ i q. taken (negation i) q)) (omega arith)
+      (walks-one own 5 p h negation)
   walks-operands own (suc (suc (suc (suc zero)))) p h = walks-two own own 5 5 p h h and
   walks-operands own (suc (suc (suc (suc (suc zero))))) p h = walks-two own own 5 5 p h h or
   walks-operands own (suc (suc (suc (suc (suc (suc zero)))))) p h = walks-two role_count own 4 5 p (omega arith) h some

@@ -1,18 +1,13 @@
--- The loop's invariant: the some and only lines counted and those left are all. The measure: how many lines are left.
-use mathlib.Core.Path.{sym, ◌∙◌}
-use native.Mathlib.Omega.{arith}
-use Rattle.balance.proofs.Counting.{begin, one_more, none_more, ended, by-kinds}
+-- The lines that the code counts are those of the sheet.
+use Rattle.std.specs.Prelude.{◌≡◌, count_by, take}
+use Rattle.std.proofs.Common.{◌∙◌, rules}
+use Rattle.alc.specs.Seeds.{is_quantified}
+use Rattle.sheet.specs.Form.{line_of}
+use Rattle.balance.proofs.Counting.{by_entries}
 use Rattle.balance.proofs.quantifiers.Goals as goal
-use Rattle.balance.proofs.quantifiers.Goals.{else-kinds-i-gt5, then-kinds-i-gt5}
-
-pub loop-i-init : goal.loop-i-init
-loop-i-init c = begin _ _
-
-pub loop-i-preserved : goal.loop-i-preserved
-loop-i-preserved c =
-    elim c.if-kinds-i-gt5.branch [ then-kinds-i-gt5 w ↦ rw w.e-is (one_more _ _ c.loop-i.invariant c.loop-i-test.true w.if-kinds-i-gt5.true) | else-kinds-i-gt5 w ↦ rw w.e-is (none_more _ _ c.loop-i.invariant c.loop-i-test.true w.if-kinds-i-gt5.false) ]
 
 pub returns : goal.returns
 returns c =
-    let e = ended _ _ c.loop-i.invariant c.loop-i-test.false in
-    (e ∙ sym (by-kinds _), omega (arith, c.loop-i.invariant))
+    let lines = c.args.sheet.now.lines in
+    let counted : c.count.result ≡ count_by (λ e. is_quantified (line_of e)) (take lines.count lines.entries) = search rules in
+    (counted ∙ by_entries c.args.sheet.now, search rules)

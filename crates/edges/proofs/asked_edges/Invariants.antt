@@ -1,9 +1,10 @@
 -- `edges::asked_edges`: what is left to put in is the whole.
+use Rattle.alc.specs.Seeds.{asks}
+use Rattle.plan.specs.Plan.{plan_sheet}
+use Rattle.seeds.specs.Left.{asks_left}
+use Rattle.edges.specs.Keys.{ask_key}
 use Rattle.edges.proofs.Keyed.{Asking}
 use Rattle.edges.proofs.asked_edges.Given as goal
 
-abbrev pub invariant-loop-left : goal.invariant-loop-left
-invariant-loop-left l = Asking l.plan l.l l.first l.seeds l.records l.edges l.left
-
-abbrev pub decreases-loop-left : goal.decreases-loop-left
-decreases-loop-left l = l.left
+abbrev pub invariant-loop-ask : goal.invariant-loop-ask
+invariant-loop-ask l = Asking (ask_key l.seeds) (asks (plan_sheet l.plan) l.fn.l) (asks_left l.ask-iterator) l.edges

@@ -33,7 +33,7 @@ place_inside : (c : In-loop-i) → c.loop-i.i < length c.loop-i.records
 place_inside c = omega (arith, c.loop-i.invariant.within, c.loop-i.invariant.shuffled.lent.enough)
 
 pub bring_joint-front-requires : goal.bring_joint-front-requires
-bring_joint-front-requires c = record { prepared = c.requires.prepared; lent = c.requires.sound.lent; count_bound = c.requires.count_bound }
+bring_joint-front-requires c = record { lent = c.requires.sound.lent; seeds_in = c.requires.seeds_in }
 
 pub loop-i-init : goal.loop-i-init
 loop-i-init c = bringing _ c.bring_joint-front.ensures.0.lent c.bring_joint-front.ensures.1 refl
@@ -45,7 +45,7 @@ pub bounds-records-i : goal.bounds-records-i
 bounds-records-i c = place_inside (goal.at.bounds-records-i c).In-loop-i
 
 pub chosen-k-requires : goal.chosen-k-requires
-chosen-k-requires c = record { prepared = c.requires.prepared; sound = sound (goal.at.chosen-k-requires c).At-loop-i; seed = Memᴰ.cast c.label_of.ensures (seed-in (goal.at.chosen-k-requires c).In-loop-i) }
+chosen-k-requires c = record { sound = sound (goal.at.chosen-k-requires c).At-loop-i; seed = Memᴰ.cast c.label_of.ensures (seed-in (goal.at.chosen-k-requires c).In-loop-i) }
 
 is-chosen : (c : After-chosen-k) → c.chosen-k.result ≡ chosen (plan_sheet c.args.plan.now) (label_of (get_or c.loop-i.records c.loop-i.i 0))
 is-chosen c = c.chosen-k.ensures ∙ ap (chosen (plan_sheet c.args.plan.now)) c.label_of.ensures
@@ -56,12 +56,11 @@ bring_seeds-front-requires c =
     let right = sound (goal.at.bring_seeds-front-requires c).At-loop-i in
     let turn = (goal.at.bring_seeds-front-requires c).In-loop-i in
     record {
-      prepared = c.requires.prepared;
       lent = right.lent;
       start_le_used = c.loop-i.invariant.within;
       seeds_in =
           subst (λ (k : Label). SeedsIn s k (recorded c.args.used c.loop-i.records)) (sym (is-chosen (goal.at.bring_seeds-front-requires c).After-chosen-k))
-          (chosen-recorded s c.args.used c.loop-i.records c.loop-i.marks right (seed turn) (seed-in turn) (well-formed s c.requires.prepared.well));
+          (chosen-recorded s c.args.used c.loop-i.records c.loop-i.marks right (seed turn) (seed-in turn) (well-formed s c.args.plan.now.prepared.well));
     }
 
 pub overflow_add-i : goal.overflow_add-i

@@ -1,36 +1,29 @@
--- The operands of a line by its kind: not names one line, and and or name two, the others none.
-use Prim.Native.Nat.{◌<◌}
-use mathlib.Core.Path.{◌≡◌, sym}
-use native.Mathlib.Omega.{arith}
-use borrow.Author.Tests.{ltb-true}
+-- The operands as a set: the machine's shifted ones are sets of one line, and `|` puts the second in.
+use Rattle.std.specs.Prelude.{ℕ, ◌<◌, ◌*◌, ◌%◌, ◌^◌, ◌≡◌}
+use Rattle.std.proofs.Common.{sym, ◌∙◌, ap, ⊎_elim}
+use Rattle.std.specs.Int.Bits.{bit_or}
+use Rattle.std.proofs.lemmas.Bool.{ltb-true}
 use Rattle.alc.specs.Bits.{put}
-use Rattle.sheet.specs.Form.{line_from}
-use Rattle.plan.specs.Plan.{operand_set}
-use Rattle.plan.proofs.Laid.{operands-none, operands-two}
+use Rattle.alc.specs.Sheet.{operands_below}
+use Rattle.alc.proofs.Theorems.Bits.{put_word}
+use Rattle.alc.proofs.Theorems.Lists.{and_left, and_right}
+use Rattle.plan.specs.Prepared.{operand_set}
+use Rattle.plan.proofs.Told.{own-word}
 use Rattle.plan.proofs.operand_set.Goals as goal
-use Rattle.plan.proofs.operand_set.Goals.{Else-kind-gt-OR}
 
-pub with_line-requires : goal.with_line-requires
-with_line-requires c = ltb-true c.args.a 32 (rw c.if-kind-eq-NOT.true at c.requires)
+two-lines : (i j : ℕ) → i < 32 → j < 32 → bit_or (1 * 2 ^ i % 2 ^ 32) (1 * 2 ^ j % 2 ^ 32) ≡ put (put 0 i) j
+two-lines i j a b = ap (λ (x : ℕ). bit_or x (1 * 2 ^ j % 2 ^ 32)) (own-word i a) ∙ put_word 32 j (put 0 i) b
 
-pub returns-then-kind-eq-NOT : goal.returns-then-kind-eq-NOT
-returns-then-kind-eq-NOT c = rw c.if-kind-eq-NOT.true c.with_line.ensures
+pub returns-in-Not : goal.returns-in-Not
+returns-in-Not c = own-word c.in-Not.i (ltb-true c.in-Not.i 32 (ap (operands_below 32) (sym c.in-Not.is) ∙ c.requires)) ∙ sym (ap operand_set c.in-Not.is)
 
-pub returns-then-kind-lt-AND : goal.returns-then-kind-lt-AND
-returns-then-kind-lt-AND c = sym (operands-none c.args.kind c.args.a c.args.b (λ g h. omega arith))
-
-pub returns-then-kind-gt-OR : goal.returns-then-kind-gt-OR
-returns-then-kind-gt-OR c = sym (operands-none c.args.kind c.args.a c.args.b (λ g h. omega arith))
-
--- where the line is of two lines
-two : (c : Else-kind-gt-OR) → (c.args.a < 32) × (c.args.b < 32) × (operand_set (line_from c.args.kind c.args.a c.args.b) ≡ put (put 0 c.args.a) c.args.b)
-two c = operands-two c.args.kind c.args.a c.args.b (omega arith) (omega arith) c.requires
-
-pub with_line-first-requires : goal.with_line-first-requires
-with_line-first-requires c = (two c).0
-
-pub with_line-requires-2 : goal.with_line-requires-2
-with_line-requires-2 c = (two (goal.at.with_line-requires-2 c).Else-kind-gt-OR).1
-
-pub returns : goal.returns
-returns c = rw ((two (goal.at.returns c).Else-kind-gt-OR).2, c.with_line-2.ensures, c.with_line-first.ensures)
+pub returns-in-And : goal.returns-in-And
+returns-in-And c =
+    let i = c.in-And.i in
+    let j = c.in-And.j in
+    ⊎_elim
+    (λ e. let h = ap (operands_below 32) (sym e) ∙ c.requires in
+    two-lines i j (ltb-true i 32 (and_left _ _ h)) (ltb-true j 32 (and_right _ _ h)) ∙ sym (ap operand_set e))
+    (λ e. let h = ap (operands_below 32) (sym e) ∙ c.requires in
+    two-lines i j (ltb-true i 32 (and_left _ _ h)) (ltb-true j 32 (and_right _ _ h)) ∙ sym (ap operand_set e))
+    c.in-And.is

@@ -1,53 +1,22 @@
 -- `decide::decide`: each verdict on the start is the sheet's answer.
-use mathlib.Core.Path.{◌≡◌, ◌∙◌}
-use mathlib.Core.List.{[]}
-use native.Mathlib.Omega.{arith}
-use Rattle.alc.specs.Sheet.{Sheet}
-use Rattle.alc.specs.Judge.{start}
-use Rattle.plan.specs.Plan.{plan_sheet}
-use Rattle.tableau.specs.Joints.{joint_of}
-use Rattle.engine.proofs.Ledgers.{known-none, ledger-none}
-use Rattle.answers.proofs.Deciding.{answer-full, answer-model, answer-none, found-asked, found-few, found-sound}
+use Rattle.answers.proofs.Deciding.{answer-full, answer-model, answer-none, found-asked, found-sound}
 use Rattle.answers.proofs.decide.decide.Goals as goal
-use Rattle.answers.proofs.decide.decide.Goals.{After-judge-judged}
 
-abbrev sheet : (c : After-judge-judged) → Sheet
-sheet c = plan_sheet c.args.plan.now
+pub put_model-requires-clause-sound : goal.put_model-requires-clause-sound
+put_model-requires-clause-sound c =
+    found-sound c.start_joint.ensures.0 (rw c.in-Ok-Fine.field-0-is at (c.in-Ok-Fine.ensures {u = tt}))
 
-from_start : (c : After-judge-judged) → joint_of c.start_joint-start.result ≡ start (sheet c) []
-from_start c = c.start_joint-start.ensures.0
+pub put_model-requires-clause-all_seeds_in : goal.put_model-requires-clause-all_seeds_in
+put_model-requires-clause-all_seeds_in c =
+    found-asked c.start_joint.ensures.0 (rw c.in-Ok-Fine.field-0-is at (c.in-Ok-Fine.ensures {u = tt}))
 
-pub judge-judged-requires : goal.judge-judged-requires
-judge-judged-requires c = let s = plan_sheet c.args.plan.now in record { prepared = c.requires.prepared; fit = c.start_joint-start.ensures.1; lent = ((ledger-none s _ _).lent, c.requires.records_len_bound.1); known = known-none s }
+pub returns-in-Err : goal.returns-in-Err
+returns-in-Err c = answer-full c.start_joint.ensures.0 (c.in-Err.ensures {u = tt}) _
 
-pub put_model-requires : goal.put_model-requires
-put_model-requires c =
-    let s = from_start (goal.at.put_model-requires c).After-judge-judged in
-    record {
-      prepared = c.requires.prepared;
-      fit = c.judge-judged.ensures.joint;
-      sound = found-sound c.judge-judged.ensures s c.in-Fine.used c.in-Fine.is;
-      all_seeds_in = found-asked c.judge-judged.ensures s c.in-Fine.used c.in-Fine.is;
-      used_bound = omega (arith, found-few c.judge-judged.ensures s c.in-Fine.used c.in-Fine.is, c.requires.records_len_bound.0);
-    }
+pub returns-in-Ok-Going : goal.returns-in-Ok-Going
+returns-in-Ok-Going c =
+    answer-none c.start_joint.ensures.0 (rw c.in-Ok-Going.field-0-is at (c.in-Ok-Going.ensures {u = tt})) _
 
-pub returns-in-Full : goal.returns-in-Full
-returns-in-Full c = record {
-  decided = answer-full c.judge-judged.ensures (from_start (goal.at.returns-in-Full c).After-judge-judged) _ c.in-Full.is;
-  records_len_unchanged = (c.judge-judged.ensures.kept.size, c.judge-judged.ensures.kept.marked);
-}
-
-pub returns-in-Going : goal.returns-in-Going
-returns-in-Going c = record {
-  decided = answer-none c.judge-judged.ensures (from_start (goal.at.returns-in-Going c).After-judge-judged) _ _ c.in-Going.is;
-  records_len_unchanged = (c.judge-judged.ensures.kept.size, c.judge-judged.ensures.kept.marked);
-}
-
-pub returns-in-Fine : goal.returns-in-Fine
-returns-in-Fine c = record {
-  decided = answer-model c.judge-judged.ensures (from_start (goal.at.returns-in-Fine c).After-judge-judged) c.in-Fine.used c.in-Fine.is _ _ _ c.put_model.ensures.put;
-  records_len_unchanged = (
-    c.put_model.ensures.records_len_unchanged.0 ∙ c.judge-judged.ensures.kept.size,
-    c.put_model.ensures.records_len_unchanged.1 ∙ c.judge-judged.ensures.kept.marked,
-  );
-}
+pub returns-in-Ok-Fine : goal.returns-in-Ok-Fine
+returns-in-Ok-Fine c =
+    answer-model c.start_joint.ensures.0 (rw c.in-Ok-Fine.field-0-is at (c.in-Ok-Fine.ensures {u = tt})) _ _ _ c.put_model.ensures

@@ -1,21 +1,25 @@
--- The invariant: what was said of the digits so far stands in the buffer (`Laying`). The measure: how many bytes are left to lay.
-use Rattle.std.proofs.Common.{refl, arith}
+-- The invariant: what was said of the digits so far stands in the buffer (`Laying`).
+use Rattle.std.proofs.Common.{sym, ◌∙◌, subst, Option, ℕ, arith}
+use Rattle.lines.specs.Words.{paired, Laid}
 use Rattle.lines.proofs.Spelled.{laying-turn, laying-ends, not-laid, laid-odd, laid-long}
+use Rattle.lines.proofs.words.lay.Goals.{then-word-eq1-via-then-word-eq1, then-word-eq1-via-else-word-eq1+then-n-to}
 use Rattle.lines.proofs.words.lay.Goals as goal
 
 pub returns-then-word-eq1 : goal.returns-then-word-eq1
-returns-then-word-eq1 c = laid-odd _ _ _ _ c.if-word-eq1.true refl
+returns-then-word-eq1 c =
+    elim c.then-word-eq1.branch [
+      | then-word-eq1-via-then-word-eq1 w ↦ laid-odd _ _ _ w.if-word-eq1.true
+      | then-word-eq1-via-else-word-eq1+then-n-to w ↦ laid-long _ _ _ w.if-n-to.true
+    ]
 
-pub returns-then-n-to : goal.returns-then-n-to
-returns-then-n-to c = laid-long _ _ _ _ c.if-n-to.true refl
-
-pub returns-then-b-gt255 : goal.returns-then-b-gt255
-returns-then-b-gt255 c =
-    not-laid _ _ c.loop-k.k _ c.loop-k.invariant.0 (omega arith) _ (omega (arith, c.pair-b.ensures, c.if-b-gt255.true)) refl
+pub returns-in_err-to : goal.returns-in_err-to
+returns-in_err-to c =
+    subst (λ (r : Option ℕ). Laid (paired c.args.word.now) c.args.to.now c.loop-k.to r) (sym c.from_residual.ensures)
+    (not-laid _ _ c.loop-k.k _ c.loop-k.invariant (omega arith) (sym c.pair.ensures ∙ c.in_err-to.was))
 
 pub loop-k-preserved : goal.loop-k-preserved
 loop-k-preserved c =
-    (laying-turn _ _ c.loop-k.k _ c.loop-k.invariant.0 (omega arith) _ c.pair-b.ensures (omega arith) (omega arith), omega arith)
+    laying-turn _ _ c.loop-k.k _ c.loop-k.invariant (omega arith) _ (sym c.pair.ensures ∙ c.in_ok-to.was) (omega arith)
 
 pub returns : goal.returns
-returns c = laying-ends _ _ c.loop-k.k _ _ c.loop-k.invariant.0 (omega arith) (omega arith)
+returns c = laying-ends _ _ c.loop-k.k _ _ c.loop-k.invariant (omega arith) (omega arith)

@@ -1,19 +1,21 @@
--- The invariant: the digits from here on, behind the number so far, say what the whole word says. The measure: how many digits are left.
+-- The invariant: the digits from here on, behind the number so far, say what the whole word says.
 use Rattle.std.proofs.Common.{sym, ◌∙◌, arith}
 use Rattle.lines.proofs.Spelled.{digits-turn, digits-stop, digits-end, number-some, number-none}
 use Rattle.lines.proofs.words.value.Goals as goal
 
-pub returns-in_default : goal.returns-in_default
-returns-in_default c =
-    number-some _ _ (omega arith)
-    (digits-stop _ c.loop-i.n c.loop-i.i _ c.loop-i.invariant.1 (omega arith) (sym c.with_digit-more.ensures ∙ c.in_default.is))
+pub returns-then-is_empty : goal.returns-then-is_empty
+returns-then-is_empty c = number-none _ (sym c.is_empty.ensures ∙ c.if-is_empty.true)
 
-pub loop-i-preserved : goal.loop-i-preserved
-loop-i-preserved c =
-    (omega arith, digits-turn _ c.loop-i.n c.loop-i.i _ c.loop-i.invariant.1 _ (omega arith) (sym c.with_digit-more.ensures ∙ c.in-Is.is))
+pub returns-in_err-n : goal.returns-in_err-n
+returns-in_err-n c =
+    number-some _ _ (sym c.is_empty.ensures ∙ c.if-is_empty.false)
+    (c.from_residual.ensures ∙ digits-stop _ c.loop-b.n c.loop-b.b-index _ c.loop-b.invariant (omega arith) (sym c.with_digit.ensures ∙ c.in_err-n.was))
 
-pub returns-then-i-eq0 : goal.returns-then-i-eq0
-returns-then-i-eq0 c = number-none _ (omega arith)
+pub loop-b-preserved : goal.loop-b-preserved
+loop-b-preserved c =
+    digits-turn _ c.loop-b.n c.loop-b.b-index _ c.loop-b.invariant c.in_ok-n.n (omega arith) (sym c.with_digit.ensures ∙ c.in_ok-n.was)
 
 pub returns : goal.returns
-returns c = number-some _ _ (omega arith) (digits-end _ c.loop-i.n c.loop-i.i _ c.loop-i.invariant.1 (omega arith))
+returns c =
+    number-some _ _ (sym c.is_empty.ensures ∙ c.if-is_empty.false)
+    (digits-end _ c.loop-b.n c.loop-b.b-index _ c.loop-b.invariant (omega arith))

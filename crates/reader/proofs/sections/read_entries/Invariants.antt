@@ -1,12 +1,10 @@
--- The entries of any section. The loop's invariant: what is left to read from here, behind what is done, is the whole. The measure: how many are left.
-use Prim.Native.Nat.{◌-◌}
-use Rattle.reader.specs.Parts.{entry_at}
+-- The entries of a section. The loop's invariant: what is left to read from here, behind what is done, is the whole.
+use Prim.Native.Nat.{ℕ}
+use Rattle.alc.specs.Bytes.{Read}
+use Rattle.sheet.specs.declared.Entry.{Entry as Triple}
+use Rattle.reader.specs.Parts.{EntriesBy}
 use Rattle.reader.proofs.Loop.{Going}
 use Rattle.reader.proofs.sections.read_entries.Given as goal
 
-abbrev pub invariant-loop-i : goal.invariant-loop-i
-invariant-loop-i l =
-    Going (entry_at l.kind l.s l.lines l.individuals) l.count l.start l.first l.second l.third l.at l.i
-
-abbrev pub decreases-loop-i : goal.decreases-loop-i
-decreases-loop-i l = l.count - l.i
+abbrev pub invariant-loop-own : goal.invariant-loop-own
+invariant-loop-own g l = (one : ℕ → ℕ → Read Triple) → EntriesBy (goal.F-post g l.fn.entry) one → Going one l.count l.start l.entries l.at l.own

@@ -1,84 +1,15 @@
--- What a line demands where it fails: each kind that demands something has its own way through the code, and no other kind demands anything.
-use borrow.Author.Rules.{rules}
-use Prim.Native.Nat.{◌+◌, ◌<◌}
-use mathlib.Core.Path.{refl}
-use mathlib.Core.List.{[], ◌∷◌}
-use native.Mathlib.Omega.{arith}
-use lib.ListN.{get_or}
-use Rattle.alc.specs.Sheet.{line}
+-- What a line demands where it fails: a not and an or line all of its operands, an and line one of the two.
+use Rattle.std.specs.Prelude.{refl, [], ◌∷◌}
 use Rattle.alc.specs.declared.Mark.TheVariants.{Holds as holds, Fails as fails}
-use Rattle.plan.specs.Plan.{plan_sheet}
-use Rattle.plan.proofs.Lines.{no-demand, line-of-kind, line-inside, first-operand, second-operand, operand-set, idle}
-use Rattle.steps.proofs.Demands.{all-chosen}
+use Rattle.alc.specs.Label.{when_fails}
+use Rattle.steps.proofs.Demands.{all_hold, all_fail, by-operands, and-fits}
 use Rattle.steps.proofs.step.when_fails.Goals as goal
-use Rattle.steps.proofs.step.when_fails.Goals.{Start}
 
-below : (s : Start) → s.args.i < 32
-below s = line-inside s.requires.prepared s.args.i s.requires.i_bound
+pub either-requires : goal.either-requires
+either-requires c = and-fits c.args.plan.now c.args.i c.requires c.in-And.ensures
 
-pub offset_bounds-plan-i : goal.offset_bounds-plan-i
-offset_bounds-plan-i c = let b = below c in search rules
+pub returns-in-Not : goal.returns-in-Not
+returns-in-Not c = by-operands c.args.l when_fails all_hold (holds _ ∷ []) refl refl c.in-Not.ensures c.operands.ensures c.all.ensures
 
-pub bounds-plan-i : goal.bounds-plan-i
-bounds-plan-i c = let b = below (goal.at.bounds-plan-i c).Start in search rules
-
-pub overflow_add-i : goal.overflow_add-i
-overflow_add-i c = let b = below (goal.at.overflow_add-i c).Start in search rules
-
-pub offset_bounds-plan-i-in-3 : goal.offset_bounds-plan-i-in-3
-offset_bounds-plan-i-in-3 c = let b = below (goal.at.offset_bounds-plan-i-in-3 c).Start in search rules
-
-pub bounds-plan-i-in-3 : goal.bounds-plan-i-in-3
-bounds-plan-i-in-3 c = let b = below (goal.at.bounds-plan-i-in-3 c).Start in search rules
-
-pub overflow_add-i-in-4 : goal.overflow_add-i-in-4
-overflow_add-i-in-4 c = let b = below (goal.at.overflow_add-i-in-4 c).Start in search rules
-
-pub offset_bounds-plan-i-in-4 : goal.offset_bounds-plan-i-in-4
-offset_bounds-plan-i-in-4 c = let b = below (goal.at.offset_bounds-plan-i-in-4 c).Start in search rules
-
-pub bounds-plan-i-in-4 : goal.bounds-plan-i-in-4
-bounds-plan-i-in-4 c = let b = below (goal.at.bounds-plan-i-in-4 c).Start in search rules
-
-pub overflow_add-i-in-4-2 : goal.overflow_add-i-in-4-2
-overflow_add-i-in-4-2 c = let b = below (goal.at.overflow_add-i-in-4-2 c).Start in search rules
-
-pub offset_bounds-plan-i-in-4-2 : goal.offset_bounds-plan-i-in-4-2
-offset_bounds-plan-i-in-4-2 c = let b = below (goal.at.offset_bounds-plan-i-in-4-2 c).Start in search rules
-
-pub bounds-plan-i-in-4-2 : goal.bounds-plan-i-in-4-2
-bounds-plan-i-in-4-2 c = let b = below (goal.at.bounds-plan-i-in-4-2 c).Start in search rules
-
-pub one_fails-requires : goal.one_fails-requires
-one_fails-requires c =
-    (first-operand c.requires.prepared c.args.i c.requires.i_bound (omega (arith, c.in-4.is)) (omega (arith, c.in-4.is)), second-operand c.requires.prepared c.args.i c.requires.i_bound (omega (arith, c.in-4.is)))
-
-pub overflow_add-i-in-5 : goal.overflow_add-i-in-5
-overflow_add-i-in-5 c = let b = below (goal.at.overflow_add-i-in-5 c).Start in search rules
-
-pub offset_bounds-plan-i-in-5 : goal.offset_bounds-plan-i-in-5
-offset_bounds-plan-i-in-5 c = let b = below (goal.at.offset_bounds-plan-i-in-5 c).Start in search rules
-
-pub bounds-plan-i-in-5 : goal.bounds-plan-i-in-5
-bounds-plan-i-in-5 c = let b = below (goal.at.bounds-plan-i-in-5 c).Start in search rules
-
-pub returns-in-3 : goal.returns-in-3
-returns-in-3 c =
-    let a = get_or c.args.plan.now (32 + c.args.i) 0 in
-    rw (c.all_hold.ensures, operand-set c.requires.prepared c.args.i c.requires.i_bound 3 c.in-3.is, line-of-kind c.args.plan.now c.args.i 3 c.requires.i_bound c.in-3.is)
-    (all-chosen c.args.l (holds a ∷ []) c.args.l.holding (a ∷ []) refl)
-
-pub returns-in-4 : goal.returns-in-4
-returns-in-4 c =
-    rw (c.one_fails.ensures, line-of-kind c.args.plan.now c.args.i 4 c.requires.i_bound c.in-4.is)
-
-pub returns-in-5 : goal.returns-in-5
-returns-in-5 c =
-    let a = get_or c.args.plan.now (32 + c.args.i) 0 in
-    let b = get_or c.args.plan.now (64 + c.args.i) 0 in
-    rw (c.all_fail.ensures, operand-set c.requires.prepared c.args.i c.requires.i_bound 5 c.in-5.is, line-of-kind c.args.plan.now c.args.i 5 c.requires.i_bound c.in-5.is)
-    (all-chosen c.args.l (fails a ∷ fails b ∷ []) c.args.l.failing (a ∷ b ∷ []) refl)
-
-pub returns-in_default : goal.returns-in_default
-returns-in_default c =
-    rw (no-demand (line (plan_sheet c.args.plan.now) c.args.i) (idle c.requires.prepared c.args.i c.requires.i_bound (search rules) (search rules) (search rules))).1
+pub returns-in-Or : goal.returns-in-Or
+returns-in-Or c = by-operands c.args.l when_fails all_fail (fails _ ∷ fails _ ∷ []) refl refl c.in-Or.ensures c.operands-in-Or.ensures c.all-in-Or.ensures

@@ -1,21 +1,15 @@
--- `tableau::joint::joint_clashes` meets its contract. The loop keeps: the labels from a on clash exactly where some label does. Assumes nothing.
-use Rattle.std.proofs.Common.{true, false, sym, refl, ◌∙◌, arith}
-use Rattle.tableau.proofs.Jointly.{joint-length, closes-turn, closes-end}
+-- `joint::joint_clashes`: std's test of any label is the definition's.
+use Rattle.std.proofs.Common.{◌∙◌, rules, tests}
+use Rattle.std.proofs.lemmas.Iterator.{YieldsList-from_slice}
+use Rattle.std.proofs.lemmas.Iterator.Search.{any_from_yields_List}
+use Rattle.alc.specs.Label.{clashes}
+use Rattle.plan.specs.Plan.{plan_sheet}
+use Rattle.tableau.specs.Joints.{joint_of}
+use Rattle.tableau.proofs.Jointly.{any-is}
 use Rattle.tableau.proofs.joint.joint_clashes.Goals as goal
 
-pub loop-a-init : goal.loop-a-init
-loop-a-init c = (omega arith, joint-length c.args.j c.well_formed.1.0.1.1.0.1.0.1 c.requires.count_bound, refl)
-
-pub clash_test-tested-requires : goal.clash_test-tested-requires
-clash_test-tested-requires c = c.requires.prepared
-
-pub returns-then-tested : goal.returns-then-tested
-returns-then-tested c =
-    closes-turn _ _ _ c.loop-a.invariant.1 (omega arith) c.loop-a.invariant.2 true (sym c.if-tested.true ∙ c.clash_test-tested.ensures.1)
-
-pub loop-a-preserved : goal.loop-a-preserved
-loop-a-preserved c =
-    (omega arith, c.loop-a.invariant.1, closes-turn _ _ _ c.loop-a.invariant.1 (omega arith) c.loop-a.invariant.2 false (sym c.if-tested.false ∙ c.clash_test-tested.ensures.1))
-
 pub returns : goal.returns
-returns c = closes-end _ _ _ c.loop-a.invariant.1 c.loop-a-test.false c.loop-a.invariant.2
+returns c =
+    let test = clashes (plan_sheet c.args.plan.now) in
+    let J = joint_of c.args.j.now in
+    any_from_yields_List test _ _ _ c.any.ensures.ran (YieldsList-from_slice J cc) (λ x b q k. search (rules, tests)) ∙ any-is test J

@@ -1,65 +1,45 @@
--- `tableau::joint::push_at` meets its contract. Assumes nothing.
-use Rattle.std.proofs.Common.{ap, arith}
-use Rattle.tableau.proofs.Jointly.{Inside, push-inside, pushed_none, pushed-some}
+-- What a role assertion pushes: nothing where joining changes nothing.
+use Rattle.std.proofs.Common.{◌≡◌, sym, ap, ap₂, ◌∙◌}
+use Rattle.alc.specs.declared.Label.{Label}
+use Rattle.alc.specs.declared.RoleAssertion.{RoleAssertion}
+use Rattle.alc.specs.Label.{blank, add_all, join, pushed}
+use Rattle.alc.specs.Settle.{label}
+use Rattle.alc.specs.Seeds.{same}
+use Rattle.alc.proofs.Theorems.Lists.{clashing}
+use Rattle.alc.proofs.Theorems.Seeds.{same_true, same_refl}
+use Rattle.plan.specs.Plan.{plan_sheet}
+use Rattle.tableau.specs.Joints.{joint_of}
+use Rattle.tableau.proofs.Jointly.{ahead, pushes, push-inside, pushed_none, pushed-some}
 use Rattle.tableau.proofs.joint.push_at.Goals as goal
-use Rattle.tableau.proofs.joint.push_at.Goals.{Start}
+use Rattle.tableau.proofs.joint.push_at.Goals.{After-eq}
 
-inside : (c : Start) → Inside c.args.plan.now c.args.j c.args.e
-inside c = push-inside c.requires.prepared c.requires.fit c.requires.e_in_bounds
+pub label-requires : goal.label-requires
+label-requires c = rw c.role_assertion-along.ensures (push-inside c.args.plan.now c.args.j.now c.args.e c.requires.fit c.requires.e_in_bounds).source
 
-pub overflow_add-role : goal.overflow_add-role
-overflow_add-role c = let g = inside c in omega arith
+pub label-l-requires : goal.label-l-requires
+label-l-requires c = rw c.role_assertion-along.ensures (push-inside c.args.plan.now c.args.j.now c.args.e c.requires.fit c.requires.e_in_bounds).target
 
-pub offset_bounds-plan-e : goal.offset_bounds-plan-e
-offset_bounds-plan-e c = let g = inside c in omega arith
+-- what the code reads and joins
+marked : (c : After-eq) → c.pushed_along-marks.result ≡ add_all blank (pushes (plan_sheet c.args.plan.now) (joint_of c.args.j.now) c.args.e)
+marked c =
+    let J = joint_of c.args.j.now in
+    c.pushed_along-marks.ensures
+    ∙ ap₂ (λ (r : RoleAssertion) (l : Label). add_all blank (pushed (plan_sheet c.args.plan.now) r.role l)) c.role_assertion-along.ensures
+    (c.label.ensures ∙ ap (λ (r : RoleAssertion). label J r.source) c.role_assertion-along.ensures)
 
-pub bounds-plan-e : goal.bounds-plan-e
-bounds-plan-e c = let g = inside (goal.at.bounds-plan-e c).Start in omega arith
+there : (c : After-eq) → c.label-l.result ≡ ahead (plan_sheet c.args.plan.now) (joint_of c.args.j.now) c.args.e
+there c = c.label-l.ensures ∙ ap (λ (r : RoleAssertion). label (joint_of c.args.j.now) r.target) c.role_assertion-along.ensures
 
-pub overflow_add-source-2 : goal.overflow_add-source-2
-overflow_add-source-2 c = let g = inside (goal.at.overflow_add-source-2 c).Start in omega arith
+joined : (c : After-eq) → c.join.result ≡ join (ahead (plan_sheet c.args.plan.now) (joint_of c.args.j.now) c.args.e) c.pushed_along-marks.result
+joined c = c.join.ensures ∙ ap (λ (l : Label). join l c.pushed_along-marks.result) (there c)
 
-pub offset_bounds-plan-e-2 : goal.offset_bounds-plan-e-2
-offset_bounds-plan-e-2 c = let g = inside (goal.at.offset_bounds-plan-e-2 c).Start in omega arith
+pub returns-then-eq : goal.returns-then-eq
+returns-then-eq c =
+    let a = (goal.at.returns-then-eq c).After-eq in
+    pushed_none _ _ _ (marked a) (joined a) (same_true c.join.result c.label-l.result (sym c.eq.ensures ∙ c.if-eq.true) ∙ there a)
 
-pub bounds-plan-e-2 : goal.bounds-plan-e-2
-bounds-plan-e-2 c = let g = inside (goal.at.bounds-plan-e-2 c).Start in omega arith
-
-pub overflow_cast-source : goal.overflow_cast-source
-overflow_cast-source c = let g = inside (goal.at.overflow_cast-source c).Start in omega arith
-
-pub overflow_add-target-2 : goal.overflow_add-target-2
-overflow_add-target-2 c = let g = inside (goal.at.overflow_add-target-2 c).Start in omega arith
-
-pub offset_bounds-plan-e-3 : goal.offset_bounds-plan-e-3
-offset_bounds-plan-e-3 c = let g = inside (goal.at.offset_bounds-plan-e-3 c).Start in omega arith
-
-pub bounds-plan-e-3 : goal.bounds-plan-e-3
-bounds-plan-e-3 c = let g = inside (goal.at.bounds-plan-e-3 c).Start in omega arith
-
-pub overflow_cast-target : goal.overflow_cast-target
-overflow_cast-target c = let g = inside (goal.at.overflow_cast-target c).Start in omega arith
-
-pub offset_bounds-j-source : goal.offset_bounds-j-source
-offset_bounds-j-source c = let g = inside (goal.at.offset_bounds-j-source c).Start in omega arith
-
-pub bounds-j-source : goal.bounds-j-source
-bounds-j-source c = let g = inside (goal.at.bounds-j-source c).Start in omega arith
-
-pub offset_bounds-j-target : goal.offset_bounds-j-target
-offset_bounds-j-target c = let g = inside (goal.at.offset_bounds-j-target c).Start in omega arith
-
-pub bounds-j-target : goal.bounds-j-target
-bounds-j-target c = let g = inside (goal.at.bounds-j-target c).Start in omega arith
-
-pub returns-then-more-l-2 : goal.returns-then-more-l-2
-returns-then-more-l-2 c =
-    pushed_none (inside (goal.at.returns-then-more-l-2 c).Start) c.pushed_along-marks.ensures c.join-more.ensures c.if-more-l.true c.if-more-l-2.true
-
-pub returns-else-more-l-2 : goal.returns-else-more-l-2
-returns-else-more-l-2 c =
-    pushed-some (inside (goal.at.returns-else-more-l-2 c).Start) c.pushed_along-marks.ensures c.join-more.ensures (λ e. c.if-more-l-2.false (ap (λ l. l.failing) e))
-
-pub returns-else-more-l : goal.returns-else-more-l
-returns-else-more-l c =
-    pushed-some (inside (goal.at.returns-else-more-l c).Start) c.pushed_along-marks.ensures c.join-more.ensures (λ e. c.if-more-l.false (ap (λ l. l.holding) e))
+pub returns : goal.returns
+returns c =
+    let a = (goal.at.returns c).After-eq in
+    rw c.role_assertion-along.ensures
+    (pushed-some _ _ _ (marked a) (joined a) (λ e. clashing _ (ap (λ (l : Label). same l c.label-l.result) (e ∙ sym (there a)) ∙ same_refl c.label-l.result) (sym c.eq.ensures ∙ c.if-eq.false)))

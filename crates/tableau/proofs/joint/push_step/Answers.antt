@@ -1,30 +1,22 @@
--- `tableau::joint::push_step` meets its contract. The loop keeps: the first step of the role assertions from e on is that of all. Assumes nothing.
-use Rattle.std.proofs.Common.{sym, ap, ◌∙◌, arith}
+-- The first step of the role assertions that are left is that of all, as long as none was found.
+use Rattle.std.proofs.Common.{sym, ap, ◌∙◌, arith, refl}
+use Rattle.plan.specs.Plan.{plan_sheet}
 use Rattle.tableau.specs.Joints.{step_of}
-use Rattle.tableau.proofs.Jointly.{step-none, push-each}
-use Rattle.steps.proofs.Firsts.{range-start, range-on, range-found, range-end}
-use Rattle.tableau.proofs.Roles.{role-count, roles-fit}
+use Rattle.tableau.proofs.Jointly.{step-none, role-at, push-each, pass-end, pass-on, pass-found}
 use Rattle.tableau.proofs.joint.push_step.Goals as goal
 
-pub overflow_cast-roles : goal.overflow_cast-roles
-overflow_cast-roles c = omega (arith, roles-fit c.requires.prepared)
-
 pub loop-e-init : goal.loop-e-init
-loop-e-init c = range-start _ _ _
-
-pub push_at-next-requires : goal.push_at-next-requires
-push_at-next-requires c = record { prepared = c.requires.prepared; fit = c.requires.fit; e_in_bounds = omega (arith, role-count c.args.plan.now) }
+loop-e-init c = record { rest = refl }
 
 pub returns-in_default : goal.returns-in_default
 returns-in_default c =
-    rw push-each (c.push_at-next.ensures ∙ ap (step_of _ _) (range-found _ _ _ _ c.loop-e.invariant c.loop-e-test.true (λ e. c.in_default.not-Settled (c.push_at-next.ensures ∙ ap (step_of _ _) e))))
-
-pub overflow_add-e : goal.overflow_add-e
-overflow_add-e c = omega (arith, roles-fit c.requires.prepared)
+    let at = role-at (plan_sheet c.args.plan.now) c.loop-e.e (omega (arith, c.role_count-e-end.ensures.0)) in
+    rw push-each (c.push_at-next.ensures ∙ ap (step_of _ _) (pass-found c.loop-e.invariant at (λ e. c.in_default.not-Settled (c.push_at-next.ensures ∙ ap (step_of _ _) e))))
 
 pub loop-e-preserved : goal.loop-e-preserved
 loop-e-preserved c =
-    range-on _ _ _ _ c.loop-e.invariant c.loop-e-test.true (step-none _ _ _ (sym c.push_at-next.ensures ∙ c.in-Settled.is))
+    let at = role-at (plan_sheet c.args.plan.now) c.loop-e.e (omega (arith, c.role_count-e-end.ensures.0)) in
+    pass-on c.loop-e.invariant at (step-none _ _ _ (sym c.push_at-next.ensures ∙ c.in-Settled.is))
 
 pub returns : goal.returns
-returns c = rw push-each (ap (step_of _ _) (range-end _ _ _ _ c.loop-e.invariant c.loop-e-test.false))
+returns c = rw push-each (ap (step_of _ _) (pass-end c.loop-e.invariant (omega (arith, c.role_count-e-end.ensures.0))))

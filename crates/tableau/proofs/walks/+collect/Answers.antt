@@ -1,60 +1,71 @@
--- `tableau::walks::collect` meets its contract. Assumes nothing.
+-- `walks::collect`: no seeds, those of the label itself, those of the label that follows, or those of both branches, one's after the other's.
 use Rattle.std.proofs.Common.{◌≡◌, ℕ, false, List, sym, ap, ◌∙◌}
+use Rattle.std.specs.Prelude.{Some as just}
 use Rattle.alc.specs.declared.Label.{Label}
 use Rattle.alc.specs.declared.Mark.{Mark}
 use Rattle.alc.specs.Label.{add, clashes}
 use Rattle.alc.specs.Seeds.{successors, include_all}
 use Rattle.alc.proofs.Theorems.Reach.{include_all-append}
-use Rattle.steps.specs.declared.step.Choice.TheVariants.{Nothing, Every, Either}
+use Rattle.steps.specs.declared.step.Choice.TheVariants.{Every, Either}
 use Rattle.steps.specs.Choice.{choice}
-use Rattle.plan.specs.Plan.{plan_sheet, Prepared}
-use Rattle.tableau.proofs.Buffers.{grown-none, grown-full, grown-more}
+use Rattle.plan.specs.declared.Plan.{Plan}
+use Rattle.plan.specs.Plan.{plan_sheet}
+use Rattle.tableau.proofs.Buffers.{grown-none, grown-full, grown-err, grown-more}
 use Rattle.tableau.proofs.Expand.{clash-expands, chosen-fresh, every-falls, first-falls, second-falls, chosen-successors, successors-none}
 use Rattle.tableau.proofs.walks.+collect.Goals as goal
+use Rattle.tableau.proofs.walks.+collect.Goals.{In-Some-Every, In-Some-Either}
 
 -- both branches' seeds are included, one's after the other's
-both : {p : List ℕ} (ready : Prepared p) (l : Label) (m n : Mark) → Either m n ≡ choice (plan_sheet p) l → clashes (plan_sheet p) l ≡ false → (K : List Label)
+both : (p : Plan) (l : Label) (m n : Mark) → just (Either m n) ≡ choice (plan_sheet p) l → clashes (plan_sheet p) l ≡ false → (K : List Label)
     → include_all K (successors (plan_sheet p) l) ≡ include_all (include_all K (successors (plan_sheet p) (add l m))) (successors (plan_sheet p) (add l n))
-both ready l m n chosen calm K =
-    ap (include_all K) (chosen-successors ready l (Either m n) chosen calm) ∙ include_all-append K (successors (plan_sheet _) (add l m)) (successors (plan_sheet _) (add l n))
+both p l m n chosen calm K =
+    ap (include_all K) (chosen-successors p l (just (Either m n)) chosen calm) ∙ include_all-append K (successors (plan_sheet p) (add l m)) (successors (plan_sheet p) (add l n))
 
-pub returns-then-tested : goal.returns-then-tested
-returns-then-tested t c =
-    rw (successors-none (plan_sheet c.args.plan.now) c.args.l (clash-expands (plan_sheet c.args.plan.now) c.args.l (sym c.clash_test-tested.ensures.1 ∙ c.if-tested.true)))
-    (grown-none c.args.used c.args.records.now c.requires.used_in_bounds)
+-- the choice that was made, and that the label does not clash
+every : (t : ℕ) (c : In-Some-Every t) → just (Every c.in-Some-Every.marks) ≡ choice (plan_sheet c.args.plan.now) c.args.l
+every t c = ap just (sym c.in-Some-Every.field-0-is) ∙ sym c.in-Some-Every.is ∙ c.next_choice.ensures
 
-pub next_choice-choice-requires : goal.next_choice-choice-requires
-next_choice-choice-requires t c = record { prepared = c.requires.prepared; l_value = sym c.clash_test-tested.ensures.1 ∙ c.if-tested.false }
+either : (t : ℕ) (c : In-Some-Either t) → just (Either c.in-Some-Either.m c.in-Some-Either.n) ≡ choice (plan_sheet c.args.plan.now) c.args.l
+either t c = ap just (sym c.in-Some-Either.field-0-is) ∙ sym c.in-Some-Either.is ∙ c.next_choice.ensures
+
+pub returns-then-clash_test : goal.returns-then-clash_test
+returns-then-clash_test t c =
+    rw (successors-none (plan_sheet c.args.plan.now) c.args.l (clash-expands (plan_sheet c.args.plan.now) c.args.l (sym c.clash_test.ensures ∙ c.if-clash_test.true)))
+    (grown-none c.args.used c.args.records.now c.requires)
 
 pub collect-requires : goal.collect-requires
-collect-requires t c = (every-falls c.requires.prepared t c.args.l c.decreases _ c.in-Every.ensures c.join.ensures, (c.requires.prepared, c.requires.used_in_bounds))
+collect-requires t c = (every-falls c.args.plan.now t c.args.l c.decreases _ (every t (goal.at.collect-requires t c).In-Some-Every) c.join.ensures, c.requires)
 
 pub add-requires : goal.add-requires
-add-requires t c = (chosen-fresh c.requires.prepared c.args.l (Either c.in-Either.m c.in-Either.n) c.in-Either.ensures).0.0
+add-requires t c = (chosen-fresh c.args.plan.now c.args.l _ (either t c)).0.0
 
-pub collect-grown-requires : goal.collect-grown-requires
-collect-grown-requires t c = (first-falls c.requires.prepared t c.args.l c.decreases _ c.in-Either.ensures c.add.ensures, (c.requires.prepared, c.requires.used_in_bounds))
+pub collect-requires-in-Some-Either : goal.collect-requires-in-Some-Either
+collect-requires-in-Some-Either t c = (first-falls c.args.plan.now t c.args.l c.decreases _ (either t (goal.at.collect-requires-in-Some-Either t c).In-Some-Either) c.add.ensures, c.requires)
 
-pub add-requires-in-Used : goal.add-requires-in-Used
-add-requires-in-Used t c = (chosen-fresh c.requires.prepared c.args.l (Either c.in-Either.m c.in-Either.n) c.in-Either.ensures).1.0
+pub add-requires-in-Some-Either : goal.add-requires-in-Some-Either
+add-requires-in-Some-Either t c = (chosen-fresh c.args.plan.now c.args.l _ (either t (goal.at.add-requires-in-Some-Either t c).In-Some-Either)).1.0
 
-pub collect-requires-in-Used : goal.collect-requires-in-Used
-collect-requires-in-Used t c = (second-falls c.requires.prepared t c.args.l c.decreases _ c.in-Either.ensures c.add-in-Used.ensures, (c.requires.prepared, c.in-Used.ensures.holds.1))
+pub collect-requires-in-Some-Either-2 : goal.collect-requires-in-Some-Either-2
+collect-requires-in-Some-Either-2 t c = (
+  second-falls c.args.plan.now t c.args.l c.decreases _ (either t (goal.at.collect-requires-in-Some-Either-2 t c).In-Some-Either) c.add-in-Some-Either.ensures,
+  c.in_ok-now_used-in-Some-Either.ensures.holds.1,
+)
 
-pub returns-in-Nothing : goal.returns-in-Nothing
-returns-in-Nothing t c =
-    rw (chosen-successors c.requires.prepared c.args.l Nothing c.in-Nothing.ensures (sym c.clash_test-tested.ensures.1 ∙ c.if-tested.false)) c.include_seeds.ensures
+pub returns-in_err-now_used-in-Some-Either : goal.returns-in_err-now_used-in-Some-Either
+returns-in_err-now_used-in-Some-Either t c =
+    rw (both c.args.plan.now c.args.l c.in-Some-Either.m c.in-Some-Either.n (either t (goal.at.returns-in_err-now_used-in-Some-Either t c).In-Some-Either) (sym c.clash_test.ensures ∙ c.if-clash_test.false) _, ← c.add.ensures)
+    (grown-err _ _ _ _ _ c.from_residual.ensures.0
+    (grown-full _ (successors (plan_sheet c.args.plan.now) (add c.args.l c.in-Some-Either.n)) _ _ c.in_err-now_used-in-Some-Either.field-0.0 c.in_err-now_used-in-Some-Either.ensures))
 
-pub returns-in-Every : goal.returns-in-Every
-returns-in-Every t c =
-    rw (chosen-successors c.requires.prepared c.args.l (Every c.in-Every.marks) c.in-Every.ensures (sym c.clash_test-tested.ensures.1 ∙ c.if-tested.false), ← c.join.ensures) c.collect.ensures
+pub returns-in_ok-now_used-in-Some-Either : goal.returns-in_ok-now_used-in-Some-Either
+returns-in_ok-now_used-in-Some-Either t c =
+    rw (both c.args.plan.now c.args.l c.in-Some-Either.m c.in-Some-Either.n (either t (goal.at.returns-in_ok-now_used-in-Some-Either t c).In-Some-Either) (sym c.clash_test.ensures ∙ c.if-clash_test.false) _, ← c.add.ensures, ← c.add-in-Some-Either.ensures)
+    (grown-more _ (successors (plan_sheet c.args.plan.now) c.add-in-Some-Either.result) c.in_ok-now_used-in-Some-Either.now_used _ _ _ _ c.in_ok-now_used-in-Some-Either.ensures c.collect-in-Some-Either-2.ensures)
 
-pub returns-in-Full : goal.returns-in-Full
-returns-in-Full t c =
-    rw (both c.requires.prepared c.args.l c.in-Either.m c.in-Either.n c.in-Either.ensures (sym c.clash_test-tested.ensures.1 ∙ c.if-tested.false) _, ← c.add.ensures)
-    (grown-full _ (successors (plan_sheet c.args.plan.now) (add c.args.l c.in-Either.n)) _ _ c.in-Full.ensures)
+pub returns-in-None : goal.returns-in-None
+returns-in-None t c =
+    rw (chosen-successors c.args.plan.now c.args.l _ (sym c.in-None.is ∙ c.next_choice.ensures) (sym c.clash_test.ensures ∙ c.if-clash_test.false)) c.include_seeds.ensures
 
-pub returns-in-Used : goal.returns-in-Used
-returns-in-Used t c =
-    rw (both c.requires.prepared c.args.l c.in-Either.m c.in-Either.n c.in-Either.ensures (sym c.clash_test-tested.ensures.1 ∙ c.if-tested.false) _, ← c.add.ensures, ← c.add-in-Used.ensures)
-    (grown-more _ (successors (plan_sheet c.args.plan.now) c.add-in-Used.result) c.in-Used.now_used _ _ _ _ c.in-Used.ensures c.collect-in-Used.ensures)
+pub returns-in-Some-Every : goal.returns-in-Some-Every
+returns-in-Some-Every t c =
+    rw (chosen-successors c.args.plan.now c.args.l _ (every t (goal.at.returns-in-Some-Every t c).In-Some-Every) (sym c.clash_test.ensures ∙ c.if-clash_test.false), ← c.join.ensures) c.collect.ensures

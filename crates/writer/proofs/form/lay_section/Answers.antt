@@ -1,23 +1,28 @@
 -- A section: its count, and its entries if a form can hold so many.
-use mathlib.Core.Path.{◌∙◌}
-use native.Mathlib.Omega.{arith}
-use lib.ListN.{length-set}
-use Rattle.writer.proofs.Sections.{count-laid, section-laid}
+use Rattle.std.proofs.lemmas.List.{length-take-le}
+use Rattle.std.proofs.Common.{◌≡◌, take, take_all, length, sym, ◌∙◌, append-nil, arith, rules}
+use Rattle.alc.specs.Writing.{bytes_for}
+use Rattle.reader.proofs.Theorems.{triples-front}
+use Rattle.writer.proofs.Bytes.{onward}
+use Rattle.writer.proofs.Sections.{entries-more, section-stops, section-goes-on}
 use Rattle.writer.proofs.form.lay_section.Goals as goal
 
-pub returns-then-count-gt32 : goal.returns-then-count-gt32
-returns-then-count-gt32 c =
-    count-laid c.args.kind c.args.s c.args.numbers.now c.args.start (omega arith) (omega arith)
+pub returns-then-count-gt-MOST : goal.returns-then-count-gt-MOST
+returns-then-count-gt-MOST c =
+    (λ more. rw (section-stops c.args.kind c.args.s more c.if-count-gt-MOST.true) (sym c.lay_number.ensures.0), omega arith)
 
-pub lay_entries-requires : goal.lay_entries-requires
-lay_entries-requires c =
-    (omega arith, omega (arith, length-set c.args.numbers.now c.args.start c.args.s.count))
+pub loop-e-init : goal.loop-e-init
+unfolding bytes_for
+loop-e-init c = (sym (append-nil _), omega arith)
 
-pub shape_of-numbers : goal.shape_of-numbers
-shape_of-numbers c =
-    c.lay_entries.auto.numbers ∙ length-set c.args.numbers.now c.args.start c.args.s.count
+pub loop-e-preserved : goal.loop-e-preserved
+loop-e-preserved c =
+    rw (entries-more c.args.kind _ c.loop-e.e-index c.loop-e-test.true) (onward _ _ _ _ _ c.loop-e.invariant.0 c.lay_entry.ensures.0, omega arith)
 
 pub returns : goal.returns
 returns c =
-    section-laid c.args.kind c.args.s c.args.numbers.now c.args.start (omega arith)
-    c.lay_entries.result c.lay_entries.new.numbers (omega arith) c.lay_entries.ensures
+    let long : length c.args.s.entries ≡ 32 = search rules in
+    let all = take_all c.loop-e.e-index (take c.args.s.count c.args.s.entries) c.loop-e-test.false ∙ sym (triples-front c.args.s (omega arith)) in (
+      λ more. section-goes-on c.args.kind c.args.s more c.if-count-gt-MOST.false _ _ _ c.lay_number.ensures.0 (rw all at c.loop-e.invariant.0),
+      omega (arith, length-take-le c.args.s.count c.args.s.entries (omega arith)),
+    )
