@@ -293,9 +293,6 @@ module _ {key : Ask → ℕ} {all rest : List Ask} {edges : Edges} (g : Asking k
     pub asked-role : q.role < role_count
     asked-role = g.roles q (subst (λ (qs : List Ask). q ∈ qs) (sym is) here)
 
-    pub asked-room : edges.count < 32
-    asked-room = omega (arith, g.few, ap length is)
-
     pub ask-on : (next : Edges) → keys_of next ≡ insert_key (key q) (keys_of edges) → next.count ≤ edges.count + 1 → Asking key all others next
     ask-on next e c = record {
       few = omega (arith, g.few, ap length is);

@@ -55,10 +55,6 @@ abbrev pub after : List ℕ → Option (List ℕ) → Option (List ℕ)
 after xs None = None
 after xs (Some bs) = Some (xs ++ bs)
 
-after-nil : (p : Option (List ℕ)) → after [] p ≡ p
-after-nil None = refl
-after-nil (Some bs) = refl
-
 after_one : (xs : List ℕ) (b : ℕ) (p : Option (List ℕ)) → after xs (in_front (Some b) p) ≡ after (xs ++ (b ∷ [])) p
 after_one xs b None = refl
 after_one xs b (Some bs) = ap Some (sym (append_snoc xs b bs))
@@ -107,9 +103,6 @@ module _ (w : List ℕ) where
         sym g.said ∙ ap (after (take k new)) two
         ∙ ap (λ (t : Option ℕ). after (take k new) (in_front t (paired (drop (2 * (k + 1)) w)))) e in
         subst (λ (p : Option (List ℕ)). Laid p old new None) (sym no) refl
-
-  pub laying-none : (old : List ℕ) → Laying old 0 old
-  laying-none old = record { size = refl; fits = omega arith; said = after-nil (paired w); rest = refl }
 
   pub laying-ends : (old : List ℕ) (k : ℕ) (new : List ℕ) (r : ℕ) → Laying old k new → length w ≤ 2 * k → r ≡ k → Laid (paired w) old new (Some r)
   unfolding paired

@@ -1,7 +1,7 @@
 -- Members of sets: the lowest; one that two sets have in common. Walking a set by its lowest member first is walking the list of its members: one law
 -- for every loop that does so.
 use Rattle.std.specs.Prelude.{ℕ, zero, suc, ◌+◌, ◌-◌, ◌*◌, ◌/◌, ◌%◌, ◌^◌, ◌≤◌, ◌<◌, Bool, true, false, not as flip, ◌&&◌, ◌≡◌, refl, List, [], ◌∷◌, ◌++◌, eqb}
-use Rattle.std.proofs.Common.{sym, subst, ◌∙◌, ap, ap₂, ⊎_elim, one-mul, arith, lit<, shl_exact, pow_pos, eq-eqb, ne_eqb}
+use Rattle.std.proofs.Common.{sym, subst, ◌∙◌, ap, ap₂, ⊎_elim, one-mul, arith, lit<, shl_exact, eq-eqb, ne_eqb}
 use Rattle.std.proofs.Math.Nat.{pow-succ'}
 use Rattle.std.specs.Int.Bits.{bit_and}
 use Rattle.std.specs.Int.Count.{count_trailing_zeros, under}
@@ -128,49 +128,22 @@ module _ {A B : Type 0} where
       (λ s. rw s.1 (rest ∙ sym (ap (λ (r : List B). r ++ each f l) (h x here s.0))))
       (filter-step p x l)
 
--- ---- walking over the lines of a set, the lowest first: a set of lines of a sheet with k lines
-pub record Inside (k left : ℕ) : Type 0 where
-  pub small : left < 2 ^ 32
-  pub below : (i : ℕ) → bit left i ≡ true → i < k
-
--- the lowest line, and what the machine leaves without it
+-- ---- walking over a set of 32 lines, the lowest first: that line, and what the machine leaves without it
 abbrev pub lowest-of : ℕ → ℕ
 lowest-of left = count_trailing_zeros 32 left
 
 abbrev pub rest_of : ℕ → ℕ
 rest_of left = left - 1 * 2 ^ count_trailing_zeros 32 left % 2 ^ 32
 
-module _ {k left : ℕ} (g : Inside k left) (h : 0 < left) where
+module _ {left : ℕ} (small : left < 2 ^ 32) (h : 0 < left) where
   low : Lowest 32 left (lowest-of left)
-  low = lowest 32 left h g.small
+  low = lowest 32 left h small
 
   word : 1 * 2 ^ lowest-of left % 2 ^ 32 ≡ 2 ^ lowest-of left
   word = shl_exact 1 (lowest-of left) 32 (lit< tt) (omega (arith, low.inside)) ∙ one-mul (2 ^ lowest-of left)
 
-  pub low-line : lowest-of left < k
-  low-line = g.below (lowest-of left) low.member
-
-  pub low_small : lowest-of left < 32
-  low_small = low.inside
-
   pub low-le : 1 * 2 ^ lowest-of left % 2 ^ 32 ≤ left
   low-le = rw word (bit_le left (lowest-of left) low.member)
 
-  pub rest-less : rest_of left < left
-  rest-less = omega (arith, word, pow_pos (lowest-of left))
-
   pub rest-members : members 32 left ≡ lowest-of left ∷ members 32 (rest_of left)
-  rest-members = rw word (members_step 32 left h g.small)
-
-  pub rest-each : {B : Type 0} (f : ℕ → List B) → each f (members 32 left) ≡ f (lowest-of left) ++ each f (members 32 (rest_of left))
-  rest-each {B} f = ap {B = List B} (each f) rest-members
-
-  pub rest-inside : Inside k (rest_of left)
-  rest-inside = rw word record {
-    small = omega (arith, g.small);
-    below = λ i e. ⊎_elim
-        (λ (q : lowest-of left ≡ i). clashing (bit (left - 2 ^ lowest-of left) i) e
-        (ap (bit (left - 2 ^ lowest-of left)) (sym q) ∙ bit-without left (lowest-of left) low.member))
-        (λ q. g.below i (sym (bit-without-other left (lowest-of left) i low.member q) ∙ e))
-        (same? (lowest-of left) i);
-  }
+  rest-members = rw word (members_step 32 left h small)
