@@ -155,11 +155,11 @@ module _ (f : Form) (n : ℕ) (q : Section) (is : map rule_of (triples q) ≡ ke
 
   -- what is prepared speaks of the lines alone, and these stay
   pub prepared-kept : {working asking : ℕ} {operands : List ℕ} {m : Masks} → Prepared f working asking operands m → Prepared (with_section f q) working asking operands m
-  prepared-kept h = record {
+  prepared-kept {m = m} h = record {
     well = rw sheet-kept (kept-well (sheet_of f) n h.well);
     limited = rw sheet-kept (kept-limited (sheet_of f) n h.limited);
     working = λ k. rw sheet-kept (h.working k);
     asking = λ k. rw sheet-kept (h.asking k);
     operands = λ k b. rw sheet-kept (h.operands k (rw sheet-kept at b));
-    masks = masks-moved (sheet_of (with_section f q)) h.masks (ap (λ (x : Sheet). x.lines) sheet-kept);
+    masks = masks-moved (sheet_of (with_section f q)) m h.masks (ap (λ (x : Sheet). x.lines) sheet-kept) record { lines = refl; bottoms = refl; tops = refl; shared = refl; groups = λ i. refl };
   }

@@ -72,10 +72,24 @@ module _ (s : Sheet) where
   pub shares-inside : (i : ℕ) → shares_name s i ≡ true → i < count s
   shares-inside i e = let (j, _, same) = shares-elim i e in named-inside j i (same_back (line s i) (line s j) same)
 
--- ---- the masks of another sheet with the same lines
-pub masks-moved : {s : Sheet} {m : Masks} (t : Sheet) → MasksOf s m → t.lines ≡ s.lines → MasksOf t m
+-- ---- other masks with the same words, or of another sheet with the same lines
+-- the words of q are those of m
+pub record SameWords (q m : Masks) : Type 0 where
+  pub lines : q.lines ≡ m.lines
+  pub bottoms : q.bottoms ≡ m.bottoms
+  pub tops : q.tops ≡ m.tops
+  pub shared : q.shared ≡ m.shared
+  pub groups : (i : ℕ) → get_or q.groups i 0 ≡ get_or m.groups i 0
+
+pub masks-moved : {s : Sheet} {m : Masks} (t : Sheet) (q : Masks) → MasksOf s m → t.lines ≡ s.lines → SameWords q m → MasksOf t q
 unfolding shares_name
-masks-moved t right lines = rw lines record { lines = right.lines; bottoms = right.bottoms; tops = right.tops; shared = right.shared; groups = right.groups }
+masks-moved t q right lines word = rw lines record {
+  lines = λ i. rw word.lines (right.lines i);
+  bottoms = λ i. rw word.bottoms (right.bottoms i);
+  tops = λ i. rw word.tops (right.tops i);
+  shared = λ i. rw word.shared (right.shared i);
+  groups = λ i j b. rw (word.groups i) (right.groups i j b);
+}
 
 -- ---- the masks of a sheet, and a label
 four : (h f b t u : Bool) → (h && b || f && t || h && f || h && u) ≡ ((((h && f) && true || h && (true && b)) || f && (true && t)) || h && u)

@@ -1,7 +1,7 @@
 -- Members of sets: the lowest; one that two sets have in common. Walking a set by its lowest member first is walking the list of its members: one law
 -- for every loop that does so.
 use Rattle.std.specs.Prelude.{ℕ, zero, suc, ◌+◌, ◌-◌, ◌*◌, ◌/◌, ◌%◌, ◌^◌, ◌≤◌, ◌<◌, Bool, true, false, not as flip, ◌&&◌, ◌≡◌, refl, List, [], ◌∷◌, ◌++◌, eqb}
-use Rattle.std.proofs.Common.{sym, subst, ◌∙◌, ap, ap₂, ⊎_elim, one-mul, arith, lit<, shl_exact, eq-eqb, ne_eqb}
+use Rattle.std.proofs.Common.{sym, subst, ◌∙◌, ap, ap₂, ⊎_elim, one-mul, arith, lit<, shl_exact, pow_pos, eq-eqb, ne_eqb}
 use Rattle.std.proofs.Math.Nat.{pow-succ'}
 use Rattle.std.specs.Int.Bits.{bit_and}
 use Rattle.std.specs.Int.Count.{count_trailing_zeros, under}
@@ -147,3 +147,35 @@ module _ {left : ℕ} (small : left < 2 ^ 32) (h : 0 < left) where
 
   pub rest-members : members 32 left ≡ lowest-of left ∷ members 32 (rest_of left)
   rest-members = rw word (members_step 32 left h small)
+
+-- ---- a set of lines of a sheet with k lines
+pub record Inside (k left : ℕ) : Type 0 where
+  pub small : left < 2 ^ 32
+  pub below : (i : ℕ) → bit left i ≡ true → i < k
+
+-- what a turn of such a walk keeps
+module _ {k left : ℕ} (g : Inside k left) (h : 0 < left) where
+  lowest-is : Lowest 32 left (lowest-of left)
+  lowest-is = lowest 32 left h g.small
+
+  pub low-line : lowest-of left < k
+  low-line = g.below (lowest-of left) lowest-is.member
+
+  pub low_small : lowest-of left < 32
+  low_small = lowest-is.inside
+
+  pub rest-less : rest_of left < left
+  rest-less = omega (arith, word g.small h, pow_pos (lowest-of left))
+
+  pub rest-each : {B : Type 0} (f : ℕ → List B) → each f (members 32 left) ≡ f (lowest-of left) ++ each f (members 32 (rest_of left))
+  rest-each {B} f = ap {B = List B} (each f) (rest-members g.small h)
+
+  pub rest-inside : Inside k (rest_of left)
+  rest-inside = rw (word g.small h) record {
+    small = omega (arith, g.small);
+    below = λ i e. ⊎_elim
+        (λ (q : lowest-of left ≡ i). clashing (bit (left - 2 ^ lowest-of left) i) e
+        (ap (bit (left - 2 ^ lowest-of left)) (sym q) ∙ bit-without left (lowest-of left) lowest-is.member))
+        (λ q. g.below i (sym (bit-without-other left (lowest-of left) i lowest-is.member q) ∙ e))
+        (same? (lowest-of left) i);
+  }
