@@ -78,7 +78,7 @@ pub struct Masks {
     pub groups: [u32; 32],
 }
 
-// The answer of the clash test, with the label handed back: document 01 names this form ("test for a clash, handing the state back").
+// The answer of a test, with the label handed back: document 01 names this form ("test for a clash, handing the state back").
 #[derive(Clone, Copy)]
 pub struct Tested {
     pub label: Label,
@@ -127,14 +127,15 @@ impl Label {
     }
 
     // Is the mark there?
-    pub fn has(self, m: Mark) -> bool
+    pub fn has(self, m: Mark) -> Tested
         requires { line_of m < 32 }
-        ensures { result ≡ has self m }
+        ensures { (result.label ≡ self) × (result.found ≡ has self m) }
     {
-        match m {
+        let found = match m {
             Mark::Holds(i) => (self.holding >> i) % 2 == 1,
             Mark::Fails(i) => (self.failing >> i) % 2 == 1,
-        }
+        };
+        Tested { label: self, found }
     }
 
     // Does it clash?

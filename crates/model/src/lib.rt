@@ -23,7 +23,7 @@ fn names_of(plan: &Plan, l: Label) -> u32
     let mut mask = 0u32;
     for i in 0..plan.line_count() {
         if let Line::Name(a) = plan.line(i) {
-            if l.has(Mark::Holds(i)) {
+            if l.has(Mark::Holds(i)).found {
                 mask |= 1 << a;
             }
         }

@@ -23,8 +23,8 @@ fn handed_at(plan: &Plan, role: u32, l: Label, i: usize) -> Option<Mark>
     ensures { listed result ≡ handed_at (plan_sheet plan.now) role l i }
 {
     match plan.line(i) {
-        Line::Some(r, line) if r == role && l.has(Mark::Fails(i)) => Some(Mark::Fails(line)),
-        Line::Only(r, line) if r == role && l.has(Mark::Holds(i)) => Some(Mark::Holds(line)),
+        Line::Some(r, line) if r == role && l.has(Mark::Fails(i)).found => Some(Mark::Fails(line)),
+        Line::Only(r, line) if r == role && l.has(Mark::Holds(i)).found => Some(Mark::Holds(line)),
         _ => None,
     }
 }
@@ -61,13 +61,13 @@ pub(crate) fn asked_at(plan: &Plan, l: Label, i: usize) -> Option<Ask>
     ensures { listed result ≡ asks_at (plan_sheet plan.now) l i }
 {
     match plan.line(i) {
-        Line::Some(role, line) if l.has(Mark::Holds(i)) => Some(ask_for(
+        Line::Some(role, line) if l.has(Mark::Holds(i)).found => Some(ask_for(
             plan,
             l,
             role,
             Mark::Holds(line),
         )),
-        Line::Only(role, line) if l.has(Mark::Fails(i)) => Some(ask_for(
+        Line::Only(role, line) if l.has(Mark::Fails(i)).found => Some(ask_for(
             plan,
             l,
             role,

@@ -35,7 +35,7 @@ fn either(l: Label, m: Mark, n: Mark) -> Option<Choice>
     requires { (line_of m < 32) × (line_of n < 32) }
     ensures { result ≡ choice_of (first (unmet l) (either m n ∷ [])) }
 {
-    if l.has(m) || l.has(n) {
+    if l.has(m).found || l.has(n).found {
         return None;
     }
     Some(Choice::Either(m, n))
@@ -100,10 +100,10 @@ fn line_choice(plan: &Plan, l: Label, i: usize) -> Option<Choice>
     requires l_value { clashes (plan_sheet plan.now) l ≡ false }
     ensures { result ≡ choice_of (first (unmet l) (demands_at (plan_sheet plan.now) l i)) }
 {
-    if l.has(Mark::Holds(i)) {
+    if l.has(Mark::Holds(i)).found {
         return when_holds(plan, l, i);
     }
-    if l.has(Mark::Fails(i)) {
+    if l.has(Mark::Fails(i)).found {
         return when_fails(plan, l, i);
     }
     None

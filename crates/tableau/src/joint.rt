@@ -28,7 +28,7 @@ pub enum JointStep {
 fn joint_clashes(plan: &Plan, j: &Labels) -> bool
     ensures { result ≡ closes (plan_sheet plan.now) (joint_of j.now) }
 {
-    j.as_slice().iter().any(|l| clash_test(plan, *l))
+    j.as_slice().iter().any(|l| clash_test(plan, *l).found)
 }
 
 // What an individual chooses, as a step of the joint label.

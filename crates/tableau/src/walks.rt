@@ -36,7 +36,7 @@ pub fn collect(plan: &Plan, l: Label, records: &mut [u64], used: usize) -> Resul
     requires { used ≤ length records.old }
     ensures { GrownTo (include_all (recorded used records.old) (successors (plan_sheet plan.now) l)) records.old result records.new }
 {
-    if clash_test(plan, l) {
+    if clash_test(plan, l).found {
         return Ok(used);
     }
     match next_choice(plan, l) {
@@ -73,7 +73,7 @@ pub fn pick(plan: &Plan, l: Label, records: &[u64], marks: &[u8], used: usize) -
     requires { Lent used records.now marks.now }
     ensures { result ≡ first (served (plan_sheet plan.now) (standing used records.now marks.now)) (expansions (plan_sheet plan.now) l) }
 {
-    if clash_test(plan, l) {
+    if clash_test(plan, l).found {
         return None;
     }
     match next_choice(plan, l) {
@@ -90,7 +90,7 @@ pub fn pick(plan: &Plan, l: Label, records: &[u64], marks: &[u8], used: usize) -
 pub fn count_expansions(plan: &Plan, l: Label) -> u64
     ensures { result ≡ length (expansions (plan_sheet plan.now) l) % 2 ^ 64 }
 {
-    if clash_test(plan, l) {
+    if clash_test(plan, l).found {
         return 0;
     }
     match next_choice(plan, l) {

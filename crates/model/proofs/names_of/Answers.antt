@@ -23,8 +23,8 @@ loop-i-preserved c =
     elim c.match-line.branch [
       | in-Name+then-has w ↦
           let is = sym c.line.ensures ∙ w.in-Name.is in
-          rw w.mask-is (name-put g w.in-Name.a is (name-inside s c.args.plan.now.prepared.limited c.loop-i.i (on-sheet (goal.at.loop-i-preserved c).In-loop-i) w.in-Name.a is) (sym w.has.ensures ∙ w.if-has.true))
-      | in-Name+else-has w ↦ rw w.mask-is (skip-unset g (sym w.has.ensures ∙ w.if-has.false))
+          rw w.mask-is (name-put g w.in-Name.a is (name-inside s c.args.plan.now.prepared.limited c.loop-i.i (on-sheet (goal.at.loop-i-preserved c).In-loop-i) w.in-Name.a is) (sym w.has.ensures.1 ∙ w.if-has.true))
+      | in-Name+else-has w ↦ rw w.mask-is (skip-unset g (sym w.has.ensures.1 ∙ w.if-has.false))
       | in_default w ↦ rw w.mask-is (skip-other g (λ n e. w.in_default.not-Name n (c.line.ensures ∙ e)))
     ]
 

@@ -9,7 +9,7 @@ has-requires c = line-fits c.args.plan.now c.args.i c.requires.i_bound
 
 pub returns-then-has : goal.returns-then-has
 returns-then-has c =
-    let f = held-only (plan_sheet c.args.plan.now) c.args.l c.args.i c.requires.l_value c.requires.i_bound (sym c.has.ensures ∙ c.if-has.true) in
+    let f = held-only (plan_sheet c.args.plan.now) c.args.l c.args.i c.requires.l_value c.requires.i_bound (sym c.has.ensures.1 ∙ c.if-has.true) in
     search rules
 
 pub has-requires-2 : goal.has-requires-2

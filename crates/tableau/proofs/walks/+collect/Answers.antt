@@ -30,7 +30,7 @@ either t c = ap just (sym c.in-Some-Either.field-0-is) ∙ sym c.in-Some-Either.
 
 pub returns-then-clash_test : goal.returns-then-clash_test
 returns-then-clash_test t c =
-    rw (successors-none (plan_sheet c.args.plan.now) c.args.l (clash-expands (plan_sheet c.args.plan.now) c.args.l (sym c.clash_test.ensures ∙ c.if-clash_test.true)))
+    rw (successors-none (plan_sheet c.args.plan.now) c.args.l (clash-expands (plan_sheet c.args.plan.now) c.args.l (sym c.clash_test.ensures.1 ∙ c.if-clash_test.true)))
     (grown-none c.args.used c.args.records.now c.requires)
 
 pub collect-requires : goal.collect-requires
@@ -53,19 +53,19 @@ collect-requires-in-Some-Either-2 t c = (
 
 pub returns-in_err-now_used-in-Some-Either : goal.returns-in_err-now_used-in-Some-Either
 returns-in_err-now_used-in-Some-Either t c =
-    rw (both c.args.plan.now c.args.l c.in-Some-Either.m c.in-Some-Either.n (either t (goal.at.returns-in_err-now_used-in-Some-Either t c).In-Some-Either) (sym c.clash_test.ensures ∙ c.if-clash_test.false) _, ← c.add.ensures)
+    rw (both c.args.plan.now c.args.l c.in-Some-Either.m c.in-Some-Either.n (either t (goal.at.returns-in_err-now_used-in-Some-Either t c).In-Some-Either) (sym c.clash_test.ensures.1 ∙ c.if-clash_test.false) _, ← c.add.ensures)
     (grown-err _ _ _ _ _ c.from_residual.ensures.0
     (grown-full _ (successors (plan_sheet c.args.plan.now) (add c.args.l c.in-Some-Either.n)) _ _ c.in_err-now_used-in-Some-Either.field-0.0 c.in_err-now_used-in-Some-Either.ensures))
 
 pub returns-in_ok-now_used-in-Some-Either : goal.returns-in_ok-now_used-in-Some-Either
 returns-in_ok-now_used-in-Some-Either t c =
-    rw (both c.args.plan.now c.args.l c.in-Some-Either.m c.in-Some-Either.n (either t (goal.at.returns-in_ok-now_used-in-Some-Either t c).In-Some-Either) (sym c.clash_test.ensures ∙ c.if-clash_test.false) _, ← c.add.ensures, ← c.add-in-Some-Either.ensures)
+    rw (both c.args.plan.now c.args.l c.in-Some-Either.m c.in-Some-Either.n (either t (goal.at.returns-in_ok-now_used-in-Some-Either t c).In-Some-Either) (sym c.clash_test.ensures.1 ∙ c.if-clash_test.false) _, ← c.add.ensures, ← c.add-in-Some-Either.ensures)
     (grown-more _ (successors (plan_sheet c.args.plan.now) c.add-in-Some-Either.result) c.in_ok-now_used-in-Some-Either.now_used _ _ _ _ c.in_ok-now_used-in-Some-Either.ensures c.collect-in-Some-Either-2.ensures)
 
 pub returns-in-None : goal.returns-in-None
 returns-in-None t c =
-    rw (chosen-successors c.args.plan.now c.args.l _ (sym c.in-None.is ∙ c.next_choice.ensures) (sym c.clash_test.ensures ∙ c.if-clash_test.false)) c.include_seeds.ensures
+    rw (chosen-successors c.args.plan.now c.args.l _ (sym c.in-None.is ∙ c.next_choice.ensures) (sym c.clash_test.ensures.1 ∙ c.if-clash_test.false)) c.include_seeds.ensures
 
 pub returns-in-Some-Every : goal.returns-in-Some-Every
 returns-in-Some-Every t c =
-    rw (chosen-successors c.args.plan.now c.args.l _ (every t (goal.at.returns-in-Some-Every t c).In-Some-Every) (sym c.clash_test.ensures ∙ c.if-clash_test.false), ← c.join.ensures) c.collect.ensures
+    rw (chosen-successors c.args.plan.now c.args.l _ (every t (goal.at.returns-in-Some-Every t c).In-Some-Every) (sym c.clash_test.ensures.1 ∙ c.if-clash_test.false), ← c.join.ensures) c.collect.ensures

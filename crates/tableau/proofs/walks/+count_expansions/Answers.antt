@@ -17,7 +17,7 @@ either t c = ap just (sym c.in-Some-Either.field-0-is) ∙ sym c.in-Some-Either.
 
 pub returns-then-clash_test : goal.returns-then-clash_test
 returns-then-clash_test t c =
-    rw (clash-expands (plan_sheet c.args.plan.now) c.args.l (sym c.clash_test.ensures ∙ c.if-clash_test.true))
+    rw (clash-expands (plan_sheet c.args.plan.now) c.args.l (sym c.clash_test.ensures.1 ∙ c.if-clash_test.true))
 
 pub count_expansions-requires : goal.count_expansions-requires
 count_expansions-requires t c = (every-falls c.args.plan.now t c.args.l c.decreases _ (every t (goal.at.count_expansions-requires t c).In-Some-Every) c.join.ensures, tt)
@@ -36,16 +36,16 @@ count_expansions-requires-in-Some-Either t c =
     (second-falls c.args.plan.now t c.args.l c.decreases _ (either t (goal.at.count_expansions-requires-in-Some-Either t c).In-Some-Either) c.add-in-Some-Either.ensures, tt)
 
 pub returns-in-None : goal.returns-in-None
-returns-in-None t c = sym (chosen-counted c.args.plan.now c.args.l _ (sym c.in-None.is ∙ c.next_choice.ensures) (sym c.clash_test.ensures ∙ c.if-clash_test.false))
+returns-in-None t c = sym (chosen-counted c.args.plan.now c.args.l _ (sym c.in-None.is ∙ c.next_choice.ensures) (sym c.clash_test.ensures.1 ∙ c.if-clash_test.false))
 
 pub returns-in-Some-Every : goal.returns-in-Some-Every
 returns-in-Some-Every t c =
-    rw (chosen-counted c.args.plan.now c.args.l _ (every t (goal.at.returns-in-Some-Every t c).In-Some-Every) (sym c.clash_test.ensures ∙ c.if-clash_test.false), ← c.join.ensures) c.count_expansions.ensures
+    rw (chosen-counted c.args.plan.now c.args.l _ (every t (goal.at.returns-in-Some-Every t c).In-Some-Every) (sym c.clash_test.ensures.1 ∙ c.if-clash_test.false), ← c.join.ensures) c.count_expansions.ensures
 
 pub returns-in-Some-Either : goal.returns-in-Some-Either
 returns-in-Some-Either t c =
     rw (
-      chosen-counted c.args.plan.now c.args.l _ (either t (goal.at.returns-in-Some-Either t c).In-Some-Either) (sym c.clash_test.ensures ∙ c.if-clash_test.false),
+      chosen-counted c.args.plan.now c.args.l _ (either t (goal.at.returns-in-Some-Either t c).In-Some-Either) (sym c.clash_test.ensures.1 ∙ c.if-clash_test.false),
       ← c.add-in-Some-Either.ensures,
       ← c.add.ensures,
       ← c.count_expansions-in-Some-Either.ensures,

@@ -19,7 +19,7 @@ either t c = ap just (sym c.in-Some-Either.field-0-is) ∙ sym c.in-Some-Either.
 
 pub returns-then-clash_test : goal.returns-then-clash_test
 returns-then-clash_test t c =
-    rw (clash-expands (plan_sheet c.args.plan.now) c.args.l (sym c.clash_test.ensures ∙ c.if-clash_test.true))
+    rw (clash-expands (plan_sheet c.args.plan.now) c.args.l (sym c.clash_test.ensures.1 ∙ c.if-clash_test.true))
 
 pub pick-requires : goal.pick-requires
 pick-requires t c = (every-falls c.args.plan.now t c.args.l c.decreases _ (every t (goal.at.pick-requires t c).In-Some-Every) c.join.ensures, c.requires)
@@ -30,11 +30,11 @@ add-requires t c = (chosen-fresh c.args.plan.now c.args.l _ (either t c)).0.0
 pub returns-in-None : goal.returns-in-None
 returns-in-None t c =
     c.then_some.ensures ∙ ap (λ (b : Bool). then_some b c.args.l) c.seeds_stand.ensures
-    ∙ sym (chosen-picked c.args.plan.now c.args.l _ (sym c.in-None.is ∙ c.next_choice.ensures) (sym c.clash_test.ensures ∙ c.if-clash_test.false) _)
+    ∙ sym (chosen-picked c.args.plan.now c.args.l _ (sym c.in-None.is ∙ c.next_choice.ensures) (sym c.clash_test.ensures.1 ∙ c.if-clash_test.false) _)
 
 pub returns-in-Some-Every : goal.returns-in-Some-Every
 returns-in-Some-Every t c =
-    rw (chosen-picked c.args.plan.now c.args.l _ (every t (goal.at.returns-in-Some-Every t c).In-Some-Every) (sym c.clash_test.ensures ∙ c.if-clash_test.false) _, ← c.join.ensures) c.pick.ensures
+    rw (chosen-picked c.args.plan.now c.args.l _ (every t (goal.at.returns-in-Some-Every t c).In-Some-Every) (sym c.clash_test.ensures.1 ∙ c.if-clash_test.false) _, ← c.join.ensures) c.pick.ensures
 
 pub pick-requires-in-Some-Either : goal.pick-requires-in-Some-Either
 pick-requires-in-Some-Either t c =
@@ -50,7 +50,7 @@ pick-requires-in-None-pick t c =
 pub returns-in-None-pick : goal.returns-in-None-pick
 returns-in-None-pick t c =
     rw (
-      chosen-picked c.args.plan.now c.args.l _ (either t (goal.at.returns-in-None-pick t c).In-Some-Either) (sym c.clash_test.ensures ∙ c.if-clash_test.false) _,
+      chosen-picked c.args.plan.now c.args.l _ (either t (goal.at.returns-in-None-pick t c).In-Some-Either) (sym c.clash_test.ensures.1 ∙ c.if-clash_test.false) _,
       ← c.add.ensures,
       ← c.in-None-pick.ensures,
       ← c.add-in-None-pick.ensures,
@@ -58,5 +58,5 @@ returns-in-None-pick t c =
 
 pub returns-in_default : goal.returns-in_default
 returns-in_default t c =
-    rw (chosen-picked c.args.plan.now c.args.l _ (either t (goal.at.returns-in_default t c).In-Some-Either) (sym c.clash_test.ensures ∙ c.if-clash_test.false) _, ← c.add.ensures)
+    rw (chosen-picked c.args.plan.now c.args.l _ (either t (goal.at.returns-in_default t c).In-Some-Either) (sym c.clash_test.ensures.1 ∙ c.if-clash_test.false) _, ← c.add.ensures)
     (c.pick-in-Some-Either.ensures ∙ sym (or-found _ _ (λ e. c.in_default.not-None (c.pick-in-Some-Either.ensures ∙ e))))
