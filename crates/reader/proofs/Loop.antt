@@ -1,5 +1,5 @@
 -- Reading the entries of a section one after the other: what the loop keeps, and what it says in the end. Assumes nothing.
-use Rattle.std.specs.Prelude.{◌≡◌, refl, List, [], ◌∷◌, ◌++◌, length, set, replicate}
+use Rattle.std.specs.Prelude.{◌≡◌, refl, List, [], ◌∷◌, ◌++◌, length, set}
 use Rattle.std.proofs.Common.{ap, ◌∙◌, add-one, arith, length-append}
 use Prim.Native.Nat.{ℕ, suc, ◌+◌, ◌-◌, ◌≤◌, ◌<◌}
 use native.Mathlib.Nat.{sub-zero, sub-eq-zero_of_le}
@@ -7,8 +7,9 @@ use mathlib.Core.List.{append-nil}
 use lib.Seq.{append_snoc, set-append_seam}
 use Rattle.alc.specs.Sheet.{most_lines}
 use Rattle.alc.specs.Bytes.{Read, refused, taken, then, several_at}
+use Rattle.sheet.specs.declared.Section.{Section}
 use Rattle.sheet.specs.declared.Entry.{Entry as Triple}
-use Rattle.sheet.specs.Form.{triple, padded, section_form}
+use Rattle.sheet.specs.Form.{padded, section_form}
 use Rattle.reader.specs.Parts.{reading}
 
 -- one entry more in front of the zeros
@@ -39,15 +40,15 @@ behind ts t (refused n p) = refl
 behind ts t (taken l p) = ap {B = Read (List Triple)} (λ x. taken x p) (append_snoc ts t l)
 
 module _ (one : ℕ → ℕ → Read Triple) (count start : ℕ) where
-  pub begin : Going one count start (replicate 32 (triple 0 0 0)) start 0
-  unfolding padded
-  begin = record { done = []; many = refl; filled = refl; rest = rw (sub-zero count) (then-taken (several_at one 0 count start)) }
+  pub begin : {s : Section} → s ≡ section_form [] → Going one count start s.entries start 0
+  unfolding section_form
+  begin {s} e = record { done = []; many = refl; filled = ap (λ (x : Section). x.entries) e; rest = rw (sub-zero count) (then-taken (several_at one 0 count start)) }
 
   module _ {entries : List Triple} {at i : ℕ} (g : Going one count start entries at i) where
-    pub ended : i ≡ count → taken (record { entries = entries; count = count }) at ≡ reading section_form (several_at one 0 count start)
+    pub ended : {k : ℕ} → k ≡ count → i ≡ count → taken (record { entries = entries; count = k }) at ≡ reading section_form (several_at one 0 count start)
     unfolding section_form
-    ended h =
-        let all : count ≡ length g.done = omega (arith, g.many) in
+    ended {k} e h =
+        let all : k ≡ length g.done = omega (arith, g.many) in
         rw (← g.rest, sub-eq-zero_of_le {n = count} {m = i} (omega arith), append-nil)
         (λ j. taken (record { entries = g.filled j; count = all j }) at)
 

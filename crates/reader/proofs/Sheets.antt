@@ -9,10 +9,12 @@ use Rattle.alc.specs.Bytes.{Read, refused, taken, then, below_at, line_at, rule_
 use Rattle.alc.proofs.Theorems.Bytes.{accepted-is}
 use Rattle.sheet.specs.declared.Refusal.{Refusal}
 use Rattle.sheet.specs.declared.Sheet.{Sheet}
+use Rattle.sheet.specs.declared.Kind.{Kind}
+use Rattle.sheet.specs.declared.Kind.TheVariants.{Lines, Rules, Classes, Roles}
 use Rattle.sheet.specs.declared.Section.{Section}
 use Rattle.sheet.specs.declared.Entry.{Entry as Triple}
 use Rattle.sheet.specs.Form.{reason_number, section_form, line_triple, rule_triple, class_triple, role_triple, sheet_of, form_of}
-use Rattle.reader.specs.Parts.{reading, facts_at}
+use Rattle.reader.specs.Parts.{reading, section_at, facts_at}
 use Rattle.reader.specs.Promise.{ReadPromise}
 use Rattle.reader.proofs.Reading.{then-then, counted-map}
 use Rattle.reader.proofs.Theorems.{read_kept, sheet-form}
@@ -34,14 +36,30 @@ whole-then {B} bs s p f = go (ltb p (length bs))
     go true = refl
     go false = refl
 
--- a section as the code reads it: at most m entries, by their numbers
-module _ {A : Type 0} (bs : List ℕ) (m : ℕ) (f : A → Triple) (one : ℕ → ℕ → Read A) (p : ℕ) where
-  unfoldable pub section_at : Read Section
-  section_at = reading section_form (counted_at bs m (λ i p. reading f (one i p)) p)
+-- a section as the code reads it: the numbers of its entries, with zeros behind them
+unfoldable pub form_at : Kind → List ℕ → ℕ → ℕ → ℕ → Read Section
+form_at kind bs n k p = reading section_form (section_at kind bs n k p)
 
-  section-map : section_at ≡ reading (λ l. section_form (map f l)) (counted_at bs m one p)
-  unfolding section_at
-  section-map = rw (counted-map f bs m one p) (then-then (counted_at bs m one p) _ _)
+module _ {A : Type 0} (bs : List ℕ) (m : ℕ) (f : A → Triple) (one : ℕ → ℕ → Read A) (p : ℕ) where
+  form-map : reading section_form (counted_at bs m (λ i p. reading f (one i p)) p) ≡ reading (λ l. section_form (map f l)) (counted_at bs m one p)
+  form-map = rw (counted-map f bs m one p) (then-then (counted_at bs m one p) _ _)
+
+module _ (bs : List ℕ) (n k p : ℕ) where
+  lines-form : form_at Lines bs n k p ≡ reading (λ l. section_form (map line_triple l)) (counted_at bs most_lines (line_at bs) p)
+  unfolding form_at section_at
+  lines-form = form-map bs most_lines line_triple (line_at bs) p
+
+  rules-form : form_at Rules bs n k p ≡ reading (λ l. section_form (map rule_triple l)) (counted_at bs most_rules (rule_at bs n) p)
+  unfolding form_at section_at
+  rules-form = form-map bs most_rules rule_triple (rule_at bs n) p
+
+  classes-form : form_at Classes bs n k p ≡ reading (λ l. section_form (map class_triple l)) (counted_at bs most_classes (class_at bs n k) p)
+  unfolding form_at section_at
+  classes-form = form-map bs most_classes class_triple (class_at bs n k) p
+
+  roles-form : form_at Roles bs n k p ≡ reading (λ l. section_form (map role_triple l)) (counted_at bs most_roles (role_at bs k) p)
+  unfolding form_at section_at
+  roles-form = form-map bs most_roles role_triple (role_at bs k) p
 
 -- a sheet is its lines, its rules, and the facts behind them
 pub by-facts : (bs : List ℕ)
@@ -51,14 +69,14 @@ by-facts bs = simp then-then
 
 -- the form of a sheet is its sections' forms
 pub by_sections : (bs : List ℕ) → reading form_of (read_sheet bs)
-    ≡ then (section_at bs most_lines line_triple (line_at bs) 0) (λ lines p.
-    then (section_at bs most_rules rule_triple (rule_at bs lines.count) p) (λ rules q.
+    ≡ then (form_at Lines bs 0 0 0) (λ lines p.
+    then (form_at Rules bs lines.count 0 p) (λ rules q.
     then (below_at bs 9 3 q) (λ k t.
-    then (section_at bs most_classes class_triple (class_at bs lines.count k) t) (λ classes u.
-    then (section_at bs most_roles role_triple (role_at bs k) u) (λ roles v.
+    then (form_at Classes bs lines.count k t) (λ classes u.
+    then (form_at Roles bs lines.count k u) (λ roles v.
     elim (ltb v (length bs)) [ true ↦ refused 6 v | false ↦ taken (record { lines = lines; rules = rules; individuals = k; classes = classes; roles = roles }) v ])))))
 unfolding sections_at section_form form_of
-by_sections bs = simp (as-whole, whole-then, section-map, then-then, length-map)
+by_sections bs = simp (as-whole, whole-then, lines-form, rules-form, classes-form, roles-form, then-then, length-map)
 
 -- ---- an answer that reads as this keeps the promise
 abbrev pub form_read : Result Sheet Refusal → ℕ → Read Sheet

@@ -3,7 +3,7 @@ use Rattle.std.specs.Prelude.{◌≡◌, get_or, take, replicate, Result, Ok, Er
 use Rattle.std.proofs.Math.Path.{refl, ap}
 use Rattle.std.proofs.Common.{sym, ap₂, ◌∙◌, arith, length-append}
 use Rattle.std.proofs.Math.Seq.{take-append_seam}
-use mathlib.Core.List.{List, [], ◌∷◌, map}
+use mathlib.Core.List.{List, [], ◌∷◌, ◌++◌, map}
 use Prim.Native.Nat.{ℕ, zero, suc, ◌-◌, ◌≤◌}
 use Rattle.std.proofs.Math.ListN.{length}
 use Rattle.std.proofs.lemmas.List.{length-map}
@@ -36,6 +36,17 @@ module _ {A : Type 0} where
   by-places l d zero h = refl
   by-places [] d (suc n) h = absurd (omega arith)
   by-places (x ∷ l) d (suc n) h = ap (λ (r : List A). x ∷ r) (from_suc (λ i. get_or (x ∷ l) i d) 0 n ∙ by-places l d n (omega arith))
+
+-- ---- zeros behind a list are what `get_or` says there anyway
+get_or-zeros : (n i : ℕ) → ◌≡◌ {A = ℕ} (get_or (replicate n 0) i 0) 0
+get_or-zeros zero i = refl
+get_or-zeros (suc n) zero = refl
+get_or-zeros (suc n) (suc i) = get_or-zeros n i
+
+get_or-behind : (xs : List ℕ) (n i : ℕ) → get_or (xs ++ replicate n 0) i 0 ≡ get_or xs i 0
+get_or-behind [] n i = get_or-zeros n i
+get_or-behind (x ∷ xs) n zero = refl
+get_or-behind (x ∷ xs) n (suc i) = get_or-behind xs n i
 
 -- the entries of a section are the first that it holds
 pub triples-front : (s : Section) → s.count ≤ length s.entries → triples s ≡ take s.count s.entries

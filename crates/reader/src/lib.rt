@@ -6,31 +6,33 @@ pub mod sections; // the entries of a section, and the whole section
 
 ghost use Rattle.reader.specs.Promise.{ReadPromise};
 
-use crate::sections::{read_line, read_pair, read_role, read_section};
+use crate::sections::{empty_section, fill_section};
 use numbers::read_below;
-use sheet::{Reason, Refusal, Sheet};
+use sheet::{Kind, Reason, Refusal, Sheet};
 
 // The whole sheet, or the first fault.
 pub fn read_sheet(s: &[u8]) -> Result<Sheet, Refusal>
     ensures { ReadPromise s.now result }
 {
-    let (lines, p) = read_section(s, 0, 32, |at, own| read_line(s, at, own))?;
-    let line_count = lines.count;
-    let (rules, q) = read_section(s, p, 12, |at, _| read_pair(s, at, line_count, line_count))?;
+    let mut sheet = Sheet {
+        lines: empty_section(),
+        rules: empty_section(),
+        individuals: 0,
+        classes: empty_section(),
+        roles: empty_section(),
+    };
+    let p = fill_section(s, 0, Kind::Lines, 0, 0, &mut sheet.lines)?;
+    let lines = sheet.lines.count;
+    let q = fill_section(s, p, Kind::Rules, lines, 0, &mut sheet.rules)?;
     let (individuals, t) = read_below(s, q, 9, Reason::OverLimit)?;
-    let (classes, u) = read_section(s, t, 16, |at, _| read_pair(s, at, individuals, line_count))?;
-    let (roles, v) = read_section(s, u, 16, |at, _| read_role(s, at, individuals))?;
+    sheet.individuals = individuals;
+    let u = fill_section(s, t, Kind::Classes, lines, individuals, &mut sheet.classes)?;
+    let v = fill_section(s, u, Kind::Roles, lines, individuals, &mut sheet.roles)?;
     if v < s.len() {
         return Err(Refusal {
             why: Reason::LeftOver,
             at: v,
         });
     }
-    Ok(Sheet {
-        lines,
-        rules,
-        individuals,
-        classes,
-        roles,
-    })
+    Ok(sheet)
 }

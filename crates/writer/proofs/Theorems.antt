@@ -32,7 +32,8 @@ use Rattle.sheet.specs.declared.Entry.{Entry as Triple}
 use Rattle.sheet.specs.Form.{operand_count, triples, entry_numbers, section_numbers, numbers_of, sheet_of, line_from, line_of, rule_of, class_of, role_of}
 use Rattle.reader.proofs.Reading.{then-then}
 use Rattle.reader.proofs.Theorems.{entry-count}
-use Rattle.writer.specs.Checks.{most_of, Check, check, operand_checks, entry_checks, entries_checks, section_checks, form_checks, judged, first_fault}
+use Rattle.reader.specs.Parts.{most_of}
+use Rattle.writer.specs.Checks.{Check, check, operand_checks, entry_checks, entries_checks, section_checks, form_checks, judged, first_fault}
 use Rattle.writer.specs.Checks.{form_verdict}
 
 -- ---- a number where its bytes stand

@@ -2,7 +2,7 @@
 -- The writer's reply does not rest on these: it is what the reader's definition says of the bytes (alc's specs/Writing.antt), and `reads-form` proves that this
 -- is the same.
 use Rattle.std.specs.Prelude.{ℕ, zero, suc, ◌+◌, true, false, cond, List, [], ◌∷◌, ◌++◌, length, ltb, leb}
-use Rattle.alc.specs.Sheet.{most_lines, name_count, role_count, most_rules, most_individuals, most_classes, most_roles}
+use Rattle.alc.specs.Sheet.{most_lines, name_count, role_count, most_individuals}
 use Rattle.alc.specs.Sheet as theory
 use Rattle.alc.specs.Bytes.{Read, refused, taken}
 use Rattle.alc.specs.Writing.{groups}
@@ -12,6 +12,7 @@ use Rattle.sheet.specs.declared.Section.{Section}
 use Rattle.sheet.specs.declared.Sheet.{Sheet}
 use Rattle.sheet.specs.declared.Entry.{Entry as Triple}
 use Rattle.sheet.specs.Form.{triples, sheet_of}
+use Rattle.reader.specs.Parts.{most_of}
 
 -- a number, what it has to be below, and the answer where it is not
 pub record Check : Type 0 where
@@ -45,13 +46,6 @@ entry_checks Roles n k own t = check t.first role_count 4 ∷ check t.second k 5
 abbrev pub entries_checks : (ℕ → Triple → List Check) → ℕ → List Triple → List Check
 entries_checks f i [] = []
 entries_checks f i (t ∷ ts) = f i t ++ entries_checks f (suc i) ts
-
--- how many entries a section may have
-abbrev pub most_of : Kind → ℕ
-most_of Lines = most_lines
-most_of Rules = most_rules
-most_of Classes = most_classes
-most_of Roles = most_roles
 
 -- a section, and what stands behind it
 unfoldable pub section_checks : Kind → ℕ → ℕ → Section → List Check → List Check
