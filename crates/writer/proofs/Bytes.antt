@@ -1,27 +1,28 @@
 -- The bytes of numbers: one number's groups behind what stands there, one number more, as many as are judged. Assumes nothing.
 use Rattle.std.specs.Prelude.{ℕ, ◌+◌, ◌≤◌, ◌<◌, true, false, ◌≡◌, refl, List, [], ◌∷◌, ◌++◌, length, get_or, take, drop, min, ltb, leb}
 use Rattle.std.proofs.Common.{sym, ap, ◌∙◌, ⊎_elim, subst, append_assoc, append-nil, take_all, take-append-drop, arith, leb-true, leb-false}
-use Rattle.std.proofs.lemmas.List.{take_more, length-append, length-take-le}
+use Rattle.std.proofs.lemmas.List.{take_more, take_more_set, length-append, length-take-le}
+use Rattle.std.proofs.Math.ListN.{set}
 use Rattle.alc.specs.Sheet.{Sheet}
 use Rattle.alc.specs.Bytes.{Read, refused, taken, read_sheet}
 use Rattle.alc.specs.Writing.{groups_within, groups, bytes_for, Wrote, put_bytes, write_read, write_reply, WritePromise}
 use Rattle.alc.proofs.Theorems.Lists.{cases, each_append}
 use Rattle.alc.proofs.Theorems.Writing.{accepted-short, same-verdict, write-promise}
 
--- xs, at most k of them, stand behind what was there
-pub behind : (old xs now : List ℕ) (k : ℕ) → now ≡ old ++ xs → length xs ≤ k → (now ≡ old ++ xs) × (length now ≤ length old + k)
-behind old xs now k e h = (e, omega (arith, ap length e, length-append old xs))
-
--- more behind them
+-- more behind what stands behind old
 pub onward : (old xs mid ys now : List ℕ) → mid ≡ old ++ xs → now ≡ mid ++ ys → now ≡ old ++ (xs ++ ys)
 onward old xs mid ys now e f = f ∙ ap (λ (l : List ℕ). l ++ ys) e ∙ append_assoc old xs ys
 
+-- one byte more, at a place, and k is the place behind it
+pub byte-onward : (old xs bs : List ℕ) (at x k : ℕ) → take at bs ≡ old ++ xs → at < length bs → k ≡ at + 1 → take k (set bs at x) ≡ old ++ (xs ++ x ∷ [])
+byte-onward old xs bs at x k e h s = rw s (onward old xs (take at bs) (x ∷ []) _ e (take_more_set bs at x h))
+
 -- ---- several
-pub bytes-append : (ns ms : List ℕ) → bytes_for (ns ++ ms) ≡ bytes_for ns ++ bytes_for ms
+bytes-append : (ns ms : List ℕ) → bytes_for (ns ++ ms) ≡ bytes_for ns ++ bytes_for ms
 unfolding bytes_for
 bytes-append ns ms = each_append groups ns ms
 
-pub bytes_one : (n : ℕ) → bytes_for (n ∷ []) ≡ groups n
+bytes_one : (n : ℕ) → bytes_for (n ∷ []) ≡ groups n
 unfolding bytes_for
 bytes_one n = append-nil (groups n)
 

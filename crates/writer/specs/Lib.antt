@@ -1,4 +1,3 @@
--- What is promised of a form; what each number of it has to keep; what stands behind a section that is laid.
+-- What is promised of a form; what each number of it has to keep.
 pub mod Promise
 pub mod Checks
-pub mod Laying

@@ -1,39 +1,22 @@
-// The numbers of a form in the sheet's order, section by section, laid as bytes. What is right stands in sheet's specs/Form.antt (numbers_of).
+// The numbers of a form in the sheet's order, section by section, and the bytes of numbers. What is right stands in sheet's specs/Form.antt (numbers_of)
+// and in alc's specs/Writing.antt (bytes_for).
 // How much room each function wants differs, so that it stays a clause.
-ghost use Rattle.std.specs.Prelude.{◌≡◌, ℕ, List, [], ◌++◌, ◌+◌, ◌*◌, ◌≤◌, ◌<◌, length, take};
-ghost use Rattle.alc.specs.Writing.{groups, bytes_for};
+ghost use Rattle.std.specs.Prelude.{◌≡◌, [], ◌++◌, ◌+◌, ◌*◌, ◌≤◌, length, take};
+ghost use Rattle.alc.specs.Writing.{bytes_for};
 ghost use Rattle.sheet.specs.Form.{entry_width, entry_numbers, section_numbers, numbers_of};
-ghost use Rattle.writer.specs.Laying.{goes_on};
 
 use crate::laid::Laid;
 use sheet::{Entry, Kind, MOST, Section, Sheet, operands};
 
-// The number's groups.
-fn lay_number(n: u16, laid: &mut Laid)
-    requires { length laid.old + 3 ≤ 1167 }
-    ensures { (laid.new ≡ laid.old ++ groups n) × (length laid.new ≤ length laid.old + 3) }
-{
-    if n < 128 {
-        laid.push(n as u8);
-        return;
-    }
-    laid.push((n % 128 + 128) as u8);
-    if n < 16384 {
-        laid.push((n / 128) as u8);
-        return;
-    }
-    laid.push((n / 128 % 128 + 128) as u8);
-    laid.push((n / 16384) as u8);
-}
+// Four sections of a count and at most 32 entries of three numbers, and the individuals.
+pub const MOST_LAID: usize = 389;
 
 // The groups of each.
 pub fn lay_numbers(numbers: &[u16], laid: &mut Laid)
     requires { length laid.old + 3 * length numbers.now ≤ 1167 }
     ensures { (laid.new ≡ laid.old ++ bytes_for numbers.now) × (length laid.new ≤ length laid.old + 3 * length numbers.now) }
 {
-    for n in numbers {
-        lay_number(*n, laid);
-    }
+    laid.extend(numbers);
 }
 
 // How many of its three numbers an entry has, by its first: document 01's table.
@@ -47,45 +30,51 @@ fn entry_width(kind: Kind, first: u16) -> usize
     }
 }
 
-// The numbers that an entry has.
-fn lay_entry(kind: Kind, e: Entry, laid: &mut Laid)
-    requires { length laid.old + 9 ≤ 1167 }
-    ensures { (laid.new ≡ laid.old ++ bytes_for (entry_numbers kind e)) × (length laid.new ≤ length laid.old + 9) }
+// The numbers that an entry has, laid from a place on; and the place behind them.
+fn lay_entry(kind: Kind, e: Entry, numbers: &mut [u16], at: usize) -> usize
+    requires { at + 3 ≤ length numbers.old }
+    ensures { (take result numbers.new ≡ take at numbers.old ++ entry_numbers kind e) × (result ≤ at + 3) }
 {
-    let numbers = [e.first, e.second, e.third];
-    lay_numbers(&numbers[..entry_width(kind, e.first)], laid);
+    let entry = [e.first, e.second, e.third];
+    let width = entry_width(kind, e.first);
+    numbers[at..at + width].copy_from_slice(&entry[..width]);
+    at + width
 }
 
-// A section: its count, then its entries. Says whether anything stands behind it: nothing does behind a count that no form can hold.
-fn lay_section(kind: Kind, s: Section, laid: &mut Laid) -> bool
-    requires { length laid.old + 291 ≤ 1167 }
-    ensures { ((more : List ℕ) → laid.old ++ bytes_for (section_numbers kind s more) ≡ goes_on result laid.new more) × (length laid.new ≤ length laid.old + 291) }
+// A section: its count, then its entries, if a form can hold so many.
+fn lay_section(kind: Kind, s: Section, numbers: &mut [u16], start: usize) -> usize
+    requires { start + 97 ≤ length numbers.old }
+    ensures { (take result numbers.new ≡ take start numbers.old ++ section_numbers kind s []) × (result ≤ start + 97) }
 {
-    lay_number(s.count, laid);
+    numbers[start] = s.count;
+    let mut at = start + 1;
     let count = s.count as usize;
     if MOST < count {
-        return false;
+        return at;
     }
     for e in &s.entries[..count] {
-        lay_entry(kind, *e, laid);
+        at = lay_entry(kind, *e, numbers, at);
     }
-    true
+    at
 }
 
-// The form's numbers, up to a count that no form can hold.
-pub fn lay_form(sheet: Sheet, laid: &mut Laid)
-    requires { laid.old ≡ [] }
-    ensures { laid.new ≡ laid.old ++ bytes_for (numbers_of sheet) }
+// The numbers of a form up to a count that no form can hold, and how many they are.
+pub fn lay_form(sheet: Sheet, numbers: &mut [u16]) -> usize
+    requires { length numbers.old ≡ 389 }
+    ensures { (result ≤ 389) × (take result numbers.new ≡ numbers_of sheet) }
 {
-    if !lay_section(Kind::Lines, sheet.lines, laid) {
-        return;
+    let a = lay_section(Kind::Lines, sheet.lines, numbers, 0);
+    if MOST < sheet.lines.count as usize {
+        return a;
     }
-    if !lay_section(Kind::Rules, sheet.rules, laid) {
-        return;
+    let b = lay_section(Kind::Rules, sheet.rules, numbers, a);
+    if MOST < sheet.rules.count as usize {
+        return b;
     }
-    lay_number(sheet.individuals, laid);
-    if !lay_section(Kind::Classes, sheet.classes, laid) {
-        return;
+    numbers[b] = sheet.individuals;
+    let c = lay_section(Kind::Classes, sheet.classes, numbers, b + 1);
+    if MOST < sheet.classes.count as usize {
+        return c;
     }
-    lay_section(Kind::Roles, sheet.roles, laid);
+    lay_section(Kind::Roles, sheet.roles, numbers, c)
 }

@@ -12,7 +12,7 @@ ghost use Rattle.alc.specs.Writing.{write_read, WritePromise};
 ghost use Rattle.writer.specs.declared.Unwritten.TheVariants.{Refused};
 ghost use Rattle.writer.specs.Promise.{FormPromise, written_number, written_value, wrote_of};
 
-use crate::form::{lay_form, lay_numbers};
+use crate::form::{MOST_LAID, lay_form, lay_numbers};
 use crate::laid::Laid;
 use reader::read_sheet;
 use sheet::{Refusal, Sheet};
@@ -64,8 +64,10 @@ pub fn write_numbers(numbers: &[u16], out: &mut [u8]) -> Written
 pub fn write_sheet(sheet: Sheet, out: &mut [u8]) -> Written
     ensures { FormPromise sheet out.old (wrote_of result out.new) }
 {
+    let mut numbers = [0; MOST_LAID];
+    let n = lay_form(sheet, &mut numbers);
     let mut laid = Laid::new();
-    lay_form(sheet, &mut laid);
+    lay_numbers(&numbers[..n], &mut laid);
     deliver(laid.as_slice(), out)
 }
 
