@@ -9,7 +9,6 @@ use desk::export::{
     bargaindune_balance, bargaindune_causes, bargaindune_satisfy, bargaindune_write,
 };
 use lines::print;
-use std::fmt::Display;
 
 const P1: &[u8] = b"\x00\x00\x00\x00\x00";
 
@@ -37,7 +36,7 @@ const LEFT_OVER: &[u8] = b"\x00\x00\x00\x00\x00\x00";
 
 // Lends a room of records with as many marks, and so many places of a buffer for the result. It prints what was returned and what it carries, then
 // both records, both marks and the buffer.
-fn ask<T: Display, F: FnOnce(&mut [u64], &mut [u8], &mut [T], &mut u64) -> u64>(
+fn ask<T: Copy + Into<u64>, F: FnOnce(&mut [u64], &mut [u8], &mut [T], &mut u64) -> u64>(
     rt: &impl Print,
     room: usize,
     places: usize,

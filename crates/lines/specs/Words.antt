@@ -66,6 +66,11 @@ and_digits (b ∷ s) r = and_digits s (then_digit r (digit_of b))
 unfoldable pub number_said : List ℕ → Option ℕ
 number_said w = cond (eqb (length w) 0) None (and_digits w (Some 0))
 
+-- a number that is not above the most
+unfoldable pub within : ℕ → Option ℕ → Option ℕ
+within most None = None
+within most (Some n) = cond (leb n most) (Some n) None
+
 -- ---- bytes
 -- the byte that two hexadecimal digits say
 abbrev pub two_digits : Option ℕ → Option ℕ → Option ℕ

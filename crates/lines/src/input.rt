@@ -1,5 +1,5 @@
 // Standard input, line by line. It rests on std's reader, of which no contract says which bytes it gives.
-ghost use Rattle.std.specs.Prelude.{◌≤◌};
+ghost use Rattle.std.specs.Prelude.{◌≤◌, length, IfSome};
 ghost use Rattle.lines.specs.declared.input.TheConstants.{SIZE};
 
 use std::io::Read;
@@ -46,7 +46,9 @@ impl<'a, R: Read> Lines<'a, R> {
     }
 
     // The next line, without its end, if there is one; what its buffer does not hold is dropped. Nothing says that a line ever ends, so its bytes are counted.
-    pub fn next_line<'b>(&mut self, line: &'b mut [u8]) -> Option<&'b [u8]> {
+    pub fn next_line<'b>(&mut self, line: &'b mut [u8]) -> Option<&'b [u8]>
+        ensures { IfSome result (λ l. length l.now ≤ length line.old) }
+    {
         if self.ended {
             return None;
         }

@@ -24,20 +24,17 @@ pub fn trimmed(line: &[u8]) -> &[u8]
     }
 }
 
-// How many bytes at the front do.
-fn run(line: &[u8], blanks: bool) -> usize
-    ensures is { result ≡ run blanks line.now }
-    ensures inside { result ≤ length line.now }
-{
-    line.iter().take_while(|b| passes(**b, blanks)).count()
-}
-
-// Where the blanks from a place on end, or what is not blank.
+// Where the blanks from a place on end, or what is not blank. (By index: a part of the line for each word took a third longer where a line has many.)
 fn end_of(line: &[u8], from: usize, blanks: bool) -> usize
     requires { from ≤ length line.now }
     ensures { (result ≡ from + run blanks (drop from line.now)) × (result ≤ length line.now) }
 {
-    from + run(&line[from..], blanks)
+    for i in from..line.len() {
+        if !passes(line[i], blanks) {
+            return i;
+        }
+    }
+    line.len()
 }
 
 // Where the n-th word starts, counted from 0; the line's length where there is none.

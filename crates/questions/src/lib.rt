@@ -10,7 +10,8 @@
 
 mod ones; // buffers of ones, lent and then printed
 
-ghost use Rattle.std.specs.Prelude.{◌≤◌, length, IfSome};
+ghost use Rattle.std.specs.Prelude.{◌≡◌, ◌≤◌, length, IfSome};
+ghost use Rattle.lines.specs.Words.{word_at, number_said, within};
 ghost use Rattle.questions.specs.declared.TheConstants.{RECORDS, MARKS};
 
 use answers::Answer;
@@ -36,8 +37,10 @@ const BYTES: usize = 4096;
 const NUMBERS: usize = 2048;
 
 // The size that the n-th word of a line says, if that is not above the most.
+#[tactic(auto, unfolding(lines::specs::Words::within))]
 fn up_to(line: &[u8], n: usize, most: usize) -> Option<usize>
-    ensures { IfSome result (λ k. k ≤ most) }
+    ensures is { result ≡ within most (number_said (word_at line.now n)) }
+    ensures bounded { IfSome result (λ k. k ≤ most) }
 {
     let size = usize::try_from(words::number(line, n)?).ok()?;
     (size <= most).then_some(size)

@@ -1,9 +1,8 @@
 // Buffers of ones, in which zeros are seen as well as what else is written; and such a buffer printed, to the line's end. It rests on lines.
 use lines::print;
-use std::fmt::Display;
 
 // A number of some width, of which all bits are one.
-pub trait Ones: Copy + Display + PartialEq {
+pub trait Ones: Copy + Into<u64> + PartialEq {
     const ONES: Self;
 }
 
