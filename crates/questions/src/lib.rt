@@ -132,7 +132,7 @@ fn numbers_said(line: &[u8], numbers: &mut [u16; NUMBERS]) -> Option<usize>
         if words::asks(line, b"write", n + 2) {
             return Some(n);
         }
-        *place = u16::try_from(words::number(line, n + 2)?).ok()?;
+        *place = up_to(line, n + 2, 65535)? as u16;
     }
     None
 }
