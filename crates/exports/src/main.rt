@@ -59,7 +59,7 @@ fn ask<T: Copy + Into<u64>, F: FnOnce(&mut [u64], &mut [u8], &mut [T], &mut u64)
     print::head(rt, number, carried);
     print::head(rt, records[0], records[1]);
     print::head(rt, marks[0], marks[1]);
-    print::list(rt, buffer);
+    print::numbers(rt, buffer);
 }
 
 fn satisfy(rt: &impl Print, sheet: &[u8], room: usize, words: usize)

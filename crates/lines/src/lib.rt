@@ -1,5 +1,5 @@
 // Lines of text: those of standard input with their words, and numbers and lists of numbers on standard output. It knows nothing of sheets.
-// It rests on std alone. What words say is proved (specs/Words.antt). No contract can speak of what is read or printed: that is compared with stored output, and proved to be safe and to end.
+// It rests on std alone. What words say is proved (specs/Words.antt). No contract can speak of what is read or printed: that is compared with stored output, or with a text in a test, and proved to be safe and to end.
 #![tactic(auto)]
 
 pub mod input; // standard input, line by line

@@ -99,8 +99,20 @@ impl<R: Print> Write for Text<'_, R> {
     }
 }
 
-// A list with blanks between its numbers, to the line's end.
-pub fn list<T: Copy + Into<u64>>(rt: &impl Print, items: &[T]) {
+// A list with blanks between its items, to the line's end. (Of numbers `numbers` says the same in less time.)
+pub fn list<T: Display>(rt: &impl Print, items: &[T]) {
+    let mut text = Text::new(rt);
+    if let Some((first, rest)) = items.split_first() {
+        let _ = write!(text, "{first}");
+        for item in rest {
+            let _ = write!(text, " {item}");
+        }
+    }
+    text.end();
+}
+
+// A list of numbers likewise.
+pub fn numbers<T: Copy + Into<u64>>(rt: &impl Print, items: &[T]) {
     let mut text = Text::new(rt);
     if let Some((first, others)) = items.split_first() {
         text.number((*first).into());
@@ -128,4 +140,58 @@ pub fn head(rt: &impl Print, a: impl Display + Drop, b: impl Display + Drop) {
 // A line of text, or of numbers with what stands between them.
 pub fn line(rt: &impl Print, what: impl Display + Drop) {
     let _ = rt.println(what);
+}
+
+#[cfg(test)]
+mod tests {
+    use super::*;
+    use std::cell::Cell;
+    use std::io;
+
+    // Output that is held against a text: what of it is still to come, if it was the text so far.
+    #[derive(Drop)]
+    struct Held<'a>(Cell<Option<&'a [u8]>>);
+
+    impl Print for Held<'_> {
+        fn write_all(&self, bytes: &[u8]) -> io::Result<()> {
+            self.0
+                .set(self.0.get().and_then(|text| text.strip_prefix(bytes)));
+            Ok(())
+        }
+
+        fn print<D: Display + Drop>(&self, _: D) -> io::Result<()> {
+            self.write_all(b"?")
+        }
+
+        fn println<D: Display + Drop>(&self, _: D) -> io::Result<()> {
+            self.write_all(b"?")
+        }
+    }
+
+    // Whether the whole text was written, and nothing else.
+    fn ended(page: &Held<'_>) -> bool {
+        matches!(page.0.get(), Some([]))
+    }
+
+    #[test]
+    fn lists(rt: HostRuntime) {
+        let page = Held(Cell::new(Some(b"\n-1 0 9223372036854775807\na  b c\n7\n")));
+        list::<u8>(&page, &[]);
+        list(&page, &[-1i64, 0, i64::MAX]);
+        list(&page, &["a", "", "b c"]);
+        list(&page, &[7u8]);
+        assert!(rt; ended(&page));
+    }
+
+    #[test]
+    fn longer_than_the_buffer(rt: HostRuntime) {
+        let mut text = [0; 9000];
+        for item in text.chunks_exact_mut(3) {
+            item.copy_from_slice(b"-1 ");
+        }
+        text[8999] = b'\n';
+        let page = Held(Cell::new(Some(&text)));
+        list(&page, &[-1i8; 3000]);
+        assert!(rt; ended(&page));
+    }
 }

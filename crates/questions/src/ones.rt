@@ -32,7 +32,7 @@ pub fn print_list<T: Ones>(rt: &impl Print, items: &[T], alone: bool) {
     if alone && still(items) {
         print::line(rt, "untouched");
     } else {
-        print::list(rt, items);
+        print::numbers(rt, items);
     }
 }
 

@@ -18,11 +18,11 @@ pub byte-onward : (old xs bs : List ℕ) (at x k : ℕ) → take at bs ≡ old +
 byte-onward old xs bs at x k e h s = rw s (onward old xs (take at bs) (x ∷ []) _ e (take_more_set bs at x h))
 
 -- ---- several
-bytes-append : (ns ms : List ℕ) → bytes_for (ns ++ ms) ≡ bytes_for ns ++ bytes_for ms
+pub bytes-append : (ns ms : List ℕ) → bytes_for (ns ++ ms) ≡ bytes_for ns ++ bytes_for ms
 unfolding bytes_for
 bytes-append ns ms = each_append groups ns ms
 
-bytes_one : (n : ℕ) → bytes_for (n ∷ []) ≡ groups n
+pub bytes_one : (n : ℕ) → bytes_for (n ∷ []) ≡ groups n
 unfolding bytes_for
 bytes_one n = append-nil (groups n)
 
