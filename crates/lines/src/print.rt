@@ -1,4 +1,4 @@
-// Numbers, and lists of them, on standard output. It rests on std's printing, which lays what it prints into a buffer of its own; a list is laid
+// Numbers, and lists of them or of anything that is displayed, on standard output. It rests on std's printing, which lays what it prints into a buffer of its own; a list is laid
 // into a larger one first, so that a long one takes few writes. A write that fails is let go, and what is behind it is still written.
 ghost use Rattle.std.specs.Prelude.{◌≡◌, ◌≤◌};
 ghost use Rattle.lines.specs.declared.print.TheConstants.{SPACE};
@@ -99,7 +99,7 @@ impl<R: Print> Write for Text<'_, R> {
     }
 }
 
-// A list with blanks between its items, to the line's end. (Of numbers `numbers` says the same in less time.)
+// A list with blanks between its items, to the line's end. (Of numbers of up to 64 bits without a sign, `numbers` prints the same in less time.)
 pub fn list<T: Display>(rt: &impl Print, items: &[T]) {
     let mut text = Text::new(rt);
     if let Some((first, rest)) = items.split_first() {
@@ -111,7 +111,7 @@ pub fn list<T: Display>(rt: &impl Print, items: &[T]) {
     text.end();
 }
 
-// A list of numbers likewise.
+// A list of such numbers likewise.
 pub fn numbers<T: Copy + Into<u64>>(rt: &impl Print, items: &[T]) {
     let mut text = Text::new(rt);
     if let Some((first, others)) = items.split_first() {
