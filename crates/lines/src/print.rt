@@ -1,5 +1,6 @@
-// Numbers, and lists of them or of anything that is displayed, on standard output. It rests on std's printing, which lays what it prints into a buffer of its own; a list is laid
-// into a larger one first, so that a long one takes few writes. A write that fails is let go, and what is behind it is still written.
+// Numbers, and lists of them or of anything that is displayed, on standard output. It rests on std's printing, which lays what it prints into a buffer
+// of its own; a list is laid into a larger one first, so that a long one takes few writes. A write that fails is let go, and what is behind it is still
+// written.
 ghost use Rattle.std.specs.Prelude.{◌≡◌, ◌≤◌};
 ghost use Rattle.lines.specs.declared.print.TheConstants.{SPACE};
 
@@ -159,6 +160,7 @@ mod tests {
             Ok(())
         }
 
+        // A list writes its bytes itself: what is printed otherwise is not the text.
         fn print<D: Display + Drop>(&self, _: D) -> io::Result<()> {
             self.write_all(b"?")
         }
@@ -180,6 +182,16 @@ mod tests {
         list(&page, &[-1i64, 0, i64::MAX]);
         list(&page, &["a", "", "b c"]);
         list(&page, &[7u8]);
+        assert!(rt; ended(&page));
+    }
+
+    #[test]
+    fn numbers_as_a_list(rt: HostRuntime) {
+        let text = b"0 9 10 18446744073709551615\n0 9 10 18446744073709551615\n";
+        let page = Held(Cell::new(Some(text)));
+        let items = [0, 9, 10, u64::MAX];
+        list(&page, &items);
+        numbers(&page, &items);
         assert!(rt; ended(&page));
     }
 
