@@ -1,4 +1,4 @@
--- What each part of the reader says: entries and sections, by the numbers of their entries. Only this crate's own contracts speak of these. Definitions only.
+-- What each part of the reader says: entries and sections, by the numbers of their entries. Only this crate's own contracts speak of these, and writer's specs/Checks.antt of `most_of`. Definitions only.
 use Rattle.std.specs.Prelude.{ℕ, suc, true, false, ◌≡◌, List, length, cond, eqb, ltb, Result, Ok, Err}
 use Rattle.alc.specs.declared.Line.{Line}
 use Rattle.alc.specs.declared.Rule.{Rule}
